@@ -1,0 +1,8 @@
+//! The grammar: from the tokens of a source to its parse tree.
+#![tactic(auto)]
+
+mod symbol;
+mod tree;
+
+pub use symbol::{Symbol, Terminal};
+pub use tree::{Bound, Choice, CompareTree, ExprTree, Op, ProgramTree, RightTree, StmtTree, TestTree};

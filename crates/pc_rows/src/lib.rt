@@ -1,0 +1,2 @@
+//! Linear rows over the variables, and lists of them.
+#![tactic(auto)]
