@@ -1,5 +1,5 @@
 -- The context rules: what a parse tree is a program of, in the order in which the rules are tested.
-use Rattle.std.specs.Prelude.{ℕ, ◌+◌, ◌==◌, nat_lt, ℤ, int_lt, pos, negsuc, List, [], ◌∷◌, ◌++◌, length, map, slice_range, Option, Some, None, is_some, Bool, true, false, ◌&&◌, not, Result, Ok, Err, if◌then◌else◌}
+use Rattle.std.specs.Prelude.{ℕ, ◌+◌, ◌==◌, nat_lt, int_lt, negsuc, List, [], ◌∷◌, ◌++◌, length, map, slice_range, Option, Some, None, is_some, Bool, true, false, ◌&&◌, not, Result, Ok, Err, if◌then◌else◌}
 use Rattle.pc_text.specs.declared.place.Place.{Place}
 use Rattle.pc_rows.specs.Linear.{Linear, sum_of, scaled_by, of_constant}
 use Rattle.pc_rows.specs.declared.row.TheConstants.{VARIABLES}

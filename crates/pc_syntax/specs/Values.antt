@@ -1,5 +1,5 @@
 -- What expressions are worth and what comparisons say at a state, over unbounded integers.
-use Rattle.std.specs.Prelude.{ℕ, ℤ, pos, ◌+ℤ◌, ◌-ℤ◌, ◌*ℤ◌, neg_ℤ, int_le, int_lt, List, [], ◌∷◌, slice_index_or, Bool, true, false, not, ◌&&◌}
+use Rattle.std.specs.Prelude.{ℤ, pos, ◌+ℤ◌, ◌-ℤ◌, ◌*ℤ◌, neg_ℤ, int_le, int_lt, List, [], ◌∷◌, slice_index_or, Bool, true, not, ◌&&◌}
 use Rattle.std.specs.Ordering.{int_eq}
 use Rattle.pc_grammar.specs.declared.tree.Op.{Op}
 use Rattle.pc_grammar.specs.declared.tree.Op.TheVariants as op
