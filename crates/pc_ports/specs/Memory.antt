@@ -1,5 +1,5 @@
 -- Stores and sinks in memory, as their contracts see them.
-use Rattle.std.specs.Prelude.{◌≡◌, ℕ, ◌<◌, ◌≤◌, ◌+◌, ◌-◌, min, ◌==◌, ◌||◌, nat_le, Bool, if◌then◌else◌, List, [], ◌∷◌, ◌++◌, length, take, find, Option, Some, None}
+use Rattle.std.specs.Prelude.{◌≡◌, ℕ, ◌<◌, ◌≤◌, ◌+◌, ◌-◌, min, ◌==◌, ◌||◌, nat_le, Bool, true, false, if◌then◌else◌, List, [], ◌∷◌, ◌++◌, length, take, find, Option, Some, None}
 use Rattle.std.specs.List.{list_any}
 use Rattle.std.specs.Option.{option_map_or}
 use Rattle.std.specs.Str.{bytes_eq}
@@ -41,7 +41,8 @@ abbrev pub after_fetch : StoreState → StoreState
 after_fetch store =
     record store {
       calls = one_more store.calls;
-      faults = if is_to_fail store.fails store.calls then one_more store.faults else store.faults }
+      faults = if is_to_fail store.fails store.calls then one_more store.faults else store.faults;
+    }
 
 -- exactly when a fetch from memory gives each fault, but for want of memory
 abbrev pub MemoryFetchCause : StoreState → List ℕ → FetchFault → Type 0

@@ -5,10 +5,9 @@ ghost use Rattle.pc_ports.specs.declared.reads.FetchFault.TheVariants.{Missing};
 use crate::lists::one_more_than;
 use crate::reads::{FetchFault, Store};
 use std::alloc::Global;
-use std::fs;
 use std::io::Read;
 use std::marker::Model;
-use std::rt;
+use std::{fs, rt};
 
 /// How many bytes are asked for at once.
 const PIECE: usize = 4096;
@@ -44,12 +43,7 @@ impl<R: rt::Files> Store for HostStore<'_, R> {
 
     ghost faults = { λ s. s };
 
-    fn fetch(
-        &mut self,
-        alloc: Global,
-        name: &str,
-        limit: usize,
-    ) -> Result<Vec<u8>, FetchFault> {
+    fn fetch(&mut self, alloc: Global, name: &str, limit: usize) -> Result<Vec<u8>, FetchFault> {
         let bytes = match fs::open(self.host, name) {
             Ok(mut file) => read_front(alloc, &mut file, limit + 1),
             Err(_) => Err(FetchFault::Failed),
@@ -62,11 +56,7 @@ impl<R: rt::Files> Store for HostStore<'_, R> {
 }
 
 /// Reads to the end, or until there are `most` bytes.
-fn read_front<F: Read>(
-    alloc: Global,
-    file: &mut F,
-    most: usize,
-) -> Result<Vec<u8>, FetchFault>
+fn read_front<F: Read>(alloc: Global, file: &mut F, most: usize) -> Result<Vec<u8>, FetchFault>
     ensures few { IfOk result (λ v. length v.items ≤ most) }
     ensures known { IfErr result (λ f. f ≢ Missing) }
 {

@@ -11,6 +11,8 @@ mod lists;
 mod memory_reads;
 mod memory_writes;
 mod reads;
+#[cfg(test)]
+mod tests;
 mod writes;
 
 pub use host_reads::HostStore;

@@ -1,5 +1,7 @@
-ghost use Rattle.std.specs.Prelude.{◌≡◌, ◌<◌, [], ◌∷◌, ◌++◌, length, slice_get, min, ◌+◌, OnOk, OnErr, MatchOption, string_bytes};
+ghost use Rattle.std.specs.Prelude.{◌≡◌, ◌<◌, [], ◌∷◌, ◌++◌, length, slice_get, find, ◌==◌, OnOk, OnErr, MatchOption, string_bytes};
 ghost use Rattle.std.specs.List.{list_any};
+ghost use Rattle.std.specs.Option.{option_copied};
+ghost use Rattle.std.specs.Str.{bytes_eq};
 ghost use Rattle.pc_ports.specs.Memory.{held_under, one_more};
 ghost use Rattle.pc_ports.specs.Outside.{Held, Nothing};
 
@@ -69,8 +71,10 @@ impl Files {
     pub(crate) fn held(&self, name: &str) -> Option<&[u8]>
         ensures { MatchOption result (held_under self.now name.now ≡ Nothing) (λ bytes. held_under self.now name.now ≡ Held bytes.now) }
     {
-        let file = self.files.iter().find(|file| file.0.as_str() == name)?;
-        Some(file.1.as_slice())
+        match first_named(&self.files, name) {
+            Some(file) => Some(file.1.as_slice()),
+            None => None,
+        }
     }
 }
 
@@ -130,6 +134,13 @@ impl Calls {
     {
         self.numbers.contains(&call)
     }
+}
+
+/// The first file of this name.
+fn first_named<'a>(files: &'a [(String, Vec<u8>)], name: &str) -> Option<&'a (String, Vec<u8>)>
+    ensures { option_copied result ≡ find (λ file. bytes_eq (string_bytes file.0) name.now) files.now }
+{
+    files.iter().find(|file| file.0.as_str() == name)
 }
 
 /// One more, up to the last value of a count.

@@ -1,9 +1,8 @@
-ghost use Rattle.std.specs.Prelude.{◌≡◌, ℕ, List, ◌<◌, ◌≤◌, ◌+◌, take, IfOk, IfErr};
+ghost use Rattle.std.specs.Prelude.{◌≡◌, ℕ, List, ◌<◌, ◌≤◌, ◌+◌, take, false, IfOk, IfErr, OnOk};
 ghost use Rattle.pc_ports.specs.Memory.{after_fetch, held_under, MemoryFetchCause, is_to_fail};
 ghost use Rattle.pc_ports.specs.Outside.{FetchCause, TakenFrom};
-ghost use Rattle.pc_ports.specs.declared.reads.FetchFault.TheVariants.{NoMemory};
 
-use crate::lists::{Calls, Files, one_more_than};
+use crate::lists::{Calls, Files, NoMemory, one_more_than};
 use crate::reads::{FetchFault, Store};
 use std::alloc::Global;
 use std::marker::Model;
@@ -46,37 +45,39 @@ impl Store for MemoryStore {
 
     ghost faults = { λ s. s.faults };
 
-    fn fetch(
-        &mut self,
-        alloc: Global,
-        name: &str,
-        limit: usize,
-    ) -> Result<Vec<u8>, FetchFault>
+    fn fetch(&mut self, alloc: Global, name: &str, limit: usize) -> Result<Vec<u8>, FetchFault>
         requires { limit < usize.MAX }
         ensures after { self.new ≡ after_fetch self.old }
-        ensures taken { IfOk result (λ v. TakenFrom (held_under self.old.files name.now) limit v.items) }
-        ensures listed { IfOk result (λ v. is_to_fail self.old.fails self.old.calls ≡ false) }
+        ensures unlisted { OnOk result (is_to_fail self.old.fails self.old.calls ≡ false) }
         ensures exactly { IfErr result (λ f. MemoryFetchCause self.old name.now f) }
+
+        // What every store promises.
+        ensures kept { (n : List ℕ) → held_under self.new.files n ≡ held_under self.old.files n }
+        ensures counted { self.old.faults ≤ self.new.faults }
+        ensures taken { IfOk result (λ v. TakenFrom (held_under self.old.files name.now) limit v.items) }
+        ensures cause { IfErr result (λ f. FetchCause (held_under self.old.files name.now) self.old.faults self.new.faults f) }
     {
         self.calls = one_more_than(self.calls);
         if self.fails.contains(self.calls) {
             self.faults = one_more_than(self.faults);
             return Err(FetchFault::Failed);
         }
-        match self.files.held(name) {
-            Some(bytes) => front(alloc, bytes, limit + 1),
-            None => Err(FetchFault::Missing),
-        }
+        let Some(bytes) = self.files.held(name) else {
+            return Err(FetchFault::Missing);
+        };
+        let Ok(copy) = front(alloc, bytes, limit + 1) else {
+            return Err(FetchFault::NoMemory);
+        };
+        Ok(copy)
     }
 }
 
 /// A copy of the first `most` bytes, or of all where there are fewer.
-fn front(alloc: Global, bytes: &[u8], most: usize) -> Result<Vec<u8>, FetchFault>
-    ensures copied { IfOk result (λ v. v.items ≡ take most bytes.now) }
-    ensures refused { IfErr result (λ f. f ≡ NoMemory) }
+fn front(alloc: Global, bytes: &[u8], most: usize) -> Result<Vec<u8>, NoMemory>
+    ensures { IfOk result (λ v. v.items ≡ take most bytes.now) }
 {
     match Vec::from_slice(alloc, &bytes[..most.min(bytes.len())]) {
         Ok(copy) => Ok(copy),
-        Err(_) => Err(FetchFault::NoMemory),
+        Err(_) => Err(NoMemory),
     }
 }

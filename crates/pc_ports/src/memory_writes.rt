@@ -1,4 +1,4 @@
-ghost use Rattle.std.specs.Prelude.{◌≡◌, ◌<◌, ◌≤◌, [], length, take, Some, IfOk, OkIff, OnErr};
+ghost use Rattle.std.specs.Prelude.{◌≡◌, ◌<◌, ◌≤◌, [], length, take, Some, false, IfOk, OkIff, OnErr};
 ghost use Rattle.pc_ports.specs.Memory.{after_put, is_put_fault, put_len};
 ghost use Rattle.pc_ports.specs.Outside.{Appended, Rose};
 
@@ -74,7 +74,13 @@ impl Sink for MemorySink {
         requires { 0 < length b.now }
         ensures exactly { OkIff result (is_put_fault self.old ≡ false) (put_len self.old b.now) }
         ensures after { self.new ≡ after_put self.old b.now }
+
+        // What every sink promises.
         ensures some { IfOk result (λ n. (0 < n) × (n ≤ length b.now)) }
+        ensures front { IfOk result (λ n. Appended (Some self.old.written) (Some self.new.written) (take n b.now)) }
+        ensures nothing { OnErr result (Some self.new.written ≡ Some self.old.written) }
+        ensures cause { OnErr result (Rose self.old.faults self.new.faults) }
+        ensures counted { self.old.faults ≤ self.new.faults }
     {
         self.calls = one_more_than(self.calls);
         let left = self.room - self.bytes.len();

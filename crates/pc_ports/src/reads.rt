@@ -25,12 +25,7 @@ pub trait Store {
     /// The first `limit + 1` bytes held under the name, or all where there are fewer.
     ///
     /// So what is longer than `limit` bytes is seen to be too long, and no more of it is read.
-    fn fetch(
-        &mut self,
-        alloc: Global,
-        name: &str,
-        limit: usize,
-    ) -> Result<Vec<u8>, FetchFault>
+    fn fetch(&mut self, alloc: Global, name: &str, limit: usize) -> Result<Vec<u8>, FetchFault>
         requires { limit < usize.MAX }
 
         // What is held stays, and the count never falls.
