@@ -27,6 +27,6 @@ negated = refl
 valued : value (row (pos 3) (pos 2) (negsuc 0)) (pos 4 ∷ pos 20 ∷ []) ≡ negsuc 8
 valued = refl
 
--- x >= 0 covers x + 3 >= 0, and every row covers 5 >= 0, but not x - 1 >= 0
+-- x >= 0 covers x + 3 >= 0, and 5 >= 0 is met by every state; x - 1 >= 0 is not covered
 joined_rows : joined (row (pos 0) (pos 1) (pos 0) ∷ []) (row (pos 3) (pos 1) (pos 0) ∷ row (pos 5) (pos 0) (pos 0) ∷ row (negsuc 0) (pos 1) (pos 0) ∷ []) ≡ row (pos 0) (pos 1) (pos 0) ∷ row (negsuc 0) (pos 1) (pos 0) ∷ []
 joined_rows = refl
