@@ -1,3 +1,4 @@
 pub mod Range
 pub mod Computed
 pub mod Checked
+pub mod Stack

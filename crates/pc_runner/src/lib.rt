@@ -3,5 +3,7 @@
 
 mod arithmetic;
 mod evaluation;
+mod machine;
+mod testing;
 
-pub use evaluation::value_of;
+pub use machine::take_step;
