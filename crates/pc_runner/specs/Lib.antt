@@ -2,3 +2,5 @@ pub mod Range
 pub mod Computed
 pub mod Checked
 pub mod Stack
+pub mod Verdicts
+pub mod Runs

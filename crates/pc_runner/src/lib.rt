@@ -4,6 +4,11 @@
 mod arithmetic;
 mod evaluation;
 mod machine;
+mod runs;
+mod script;
 mod testing;
+mod verdict;
 
-pub use machine::take_step;
+pub use runs::run;
+pub use script::{CHOICES, Script};
+pub use verdict::Verdict;
