@@ -22,6 +22,8 @@ use std::alloc::{AllocError, Global};
 /// choice last, and comparisons in order up to the first that fails.
 pub fn run(alloc: Global, program: &Program, script: &Script) -> Result<Verdict, NoMemory>
     requires { length script.now.entry ≡ program.now.names.params }
+    ensures says { IfOk result (λ verdict. SaysOf program.now script.now.entry script.now.choices verdict) }
+    ensures only { (verdict : Verdict) → SaysOf program.now script.now.entry script.now.choices verdict → IfOk result (λ given. given ≡ verdict) }
     ensures computed { IfOk result (λ verdict. verdict ≡ verdict_of program.now script.now.entry script.now.choices) }
 {
     match verdict_of(alloc, program, script) {
