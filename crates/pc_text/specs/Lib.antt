@@ -8,3 +8,4 @@ pub mod Lex
 pub mod Answers
 pub mod Numerals
 pub mod Named
+pub mod Lines
