@@ -1,6 +1,8 @@
 //! The grammar: from the tokens of a source to its parse tree.
 #![tactic(auto)]
 
+mod cursor;
+mod expr;
 mod symbol;
 mod tree;
 
