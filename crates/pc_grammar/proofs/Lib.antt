@@ -6,3 +6,5 @@ pub mod Chains
 pub mod Rights
 pub mod Statements
 pub mod Programs
+pub mod Loops
+pub mod Turns
