@@ -15,7 +15,7 @@ progress_of f c L L' p p' laws here i r a e = at (subst (λ o. Outcome c L L' p 
     at : Read c L p p' i a r → length r < length i
     at x = let l = longer x.word (here a x.word x.says) in omega (arith, ap length x.split)
 
-map_twice : {A B C : Type 0} (g : B → C) (h : A → B) (k : A → C) → ((a : A) → g (h a) ≡ k a) → (o : Out A) → map_out g (map_out h o) ≡ map_out k o
+pub map_twice : {A B C : Type 0} (g : B → C) (h : A → B) (k : A → C) → ((a : A) → g (h a) ≡ k a) → (o : Out A) → map_out g (map_out h o) ≡ map_out k o
 map_twice g h k e (Got a r) = ap (λ c. Got c r) (e a)
 map_twice g h k e (Stops q r) = refl
 
@@ -34,10 +34,7 @@ module _ {A : Type 0} (f : Class) (p : Parser A) (progress : (i r : Text) (a : A
   -- more turns than symbols change nothing
   same_fuel : (k j : ℕ) (i : Text) → length i ≤ k → length i ≤ j → many_from k f p i ≡ many_from j f p i
   same_fuel zero zero i n m = refl
-  same_fuel zero (suc j) [] n m = let l = n in same_empty j
-    where
-      same_empty : (j : ℕ) → many_from zero f p [] ≡ many_from (suc j) f p []
-      same_empty j = refl
+  same_fuel zero (suc j) [] n m = refl
   same_fuel zero (suc j) (t ∷ i) n m = absurd (omega arith)
   same_fuel (suc k) zero [] n m = refl
   same_fuel (suc k) zero (t ∷ i) n m = absurd (omega arith)

@@ -3,20 +3,23 @@ use Rattle.std.proofs.Common.{◌≡◌, ℕ, zero, suc, ◌+◌, ◌≤◌, ◌
 use Rattle.pc_grammar.specs.declared.symbol.Symbol.{Symbol}
 use Rattle.pc_grammar.specs.declared.symbol.Terminal.{Terminal}
 use Rattle.pc_grammar.specs.declared.symbol.Terminal.TheVariants as terminal
-use Rattle.pc_grammar.specs.declared.cursor.Stop.{Stop}
-use Rattle.pc_grammar.specs.declared.cursor.Stop.TheVariants as stop
 use Rattle.pc_grammar.specs.declared.tree.ExprTree.{ExprTree}
 use Rattle.pc_grammar.specs.declared.tree.StmtTree.{StmtTree}
 use Rattle.pc_grammar.specs.declared.tree.CompareTree.{CompareTree}
-use Rattle.pc_grammar.specs.Reads.{Fails}
-use Rattle.pc_grammar.specs.Combinators.{Text, Parser, Out, Got, Stops, Fault, Syntax, starts, map_out, both, map_parser, many}
+use Rattle.pc_grammar.specs.declared.tree.Choice.{Choice}
+use Rattle.pc_grammar.specs.declared.tree.RightTree.{RightTree}
+use Rattle.pc_grammar.specs.declared.right.Next.TheVariants as next_is
+use Rattle.pc_grammar.specs.Next.{next_of}
+use Rattle.pc_grammar.specs.Rights.{part, joined}
+use Rattle.pc_grammar.specs.Combinators.{Text, Parser, Out, Got, Stops, Fault, Syntax, starts, map_out, both, map_parser, many, Part, More, Last, series}
 use Rattle.pc_grammar.specs.Terminals.{among, the, one}
 use Rattle.pc_grammar.specs.Expressions.{signs, product, products, sum, sums, inner, star_factor, sign_addend, expr_in, paren_in, paren, is_paren}
 use Rattle.pc_grammar.specs.Statements.{begins_stmt, seconds, compare, stmt, stmts, block_in, block, is_block}
 use Rattle.pc_grammar.specs.Programs.{flat, var_line}
 use Rattle.pc_grammar.proofs.Sets.{both_begins, one_begins}
-use Rattle.pc_grammar.proofs.Loops.{progress_of, gathered, gathered_got}
+use Rattle.pc_grammar.proofs.Loops.{progress_of, gathered, gathered_got, map_twice, series_stop, series_refused, series_ended, series_got}
 use Rattle.pc_grammar.proofs.Expressions.{only, paren_laws, paren_begins, star_factor_laws, sign_addend_laws}
+use Rattle.pc_grammar.proofs.Rights.{part_laws, part_begins}
 use Rattle.pc_grammar.proofs.Statements.{and_compare_laws, stmt_laws, stmt_begins, block_laws, block_begins}
 use Rattle.pc_grammar.proofs.Programs.{comma_name_laws, var_line_laws, var_line_begins}
 
@@ -116,3 +119,39 @@ paren_down (suc n) h = let z : suc n - 1 ≡ n = omega arith in rw z refl
 pub block_down : (d : ℕ) → 0 < d → block d ≡ block_in (paren (d - 1)) (block (d - 1))
 block_down zero h = absurd (omega arith)
 block_down (suc n) h = let z : suc n - 1 ≡ n = omega arith in rw z refl
+
+-- ---- right sides
+
+abbrev pub joined_from : Parser ExprTree → ExprTree → Text → Out RightTree
+joined_from p x i = map_out (λ y. joined (x, y)) (series (among signs) (part p) i)
+
+part_progress : (n : ℕ) (i r : Text) (a : Part (Symbol × ExprTree) Choice) → part (paren n) i ≡ Got a r → length r < length i
+part_progress n = progress_of (among signs) _ _ _ _ _ (part_laws _ _ _ _ (paren_laws n) (paren_begins n)) (part_begins (is_paren n))
+
+next_more : (o : Out (Part (Symbol × ExprTree) Choice)) (s : Symbol) (x : ExprTree) (r : Text) → map_out next_of o ≡ Got (next_is.More s x) r → o ≡ Got (More (s, x)) r
+next_more (Stops k r') s x r e = absurd (cc)
+next_more (Got (Last z) r') s x r e = absurd (cc)
+next_more (Got (More (u, y)) r') s x r e = cc
+
+next_last : (o : Out (Part (Symbol × ExprTree) Choice)) (z : Choice) (r : Text) → map_out next_of o ≡ Got (next_is.Last z) r → o ≡ Got (Last z) r
+next_last (Stops k r') z r e = absurd (cc)
+next_last (Got (Last y) r') z r e = cc
+next_last (Got (More (u, y)) r') z r e = absurd (cc)
+
+next_stops : (o : Out (Part (Symbol × ExprTree) Choice)) (k : Fault) (r : Text) → map_out next_of o ≡ Stops k r → o ≡ Stops k r
+next_stops (Stops k' r') k r e = cc
+next_stops (Got x r') k r e = absurd (cc)
+
+pub joined_stop : (n : ℕ) (x : ExprTree) (i : Text) → starts (among signs) i ≡ false → joined_from (paren n) x i ≡ Got (joined (x, ([], None))) i
+joined_stop n x i h = rw (series_stop (among signs) (part (paren n)) (part_progress n) i h) refl
+
+pub joined_refused : (n : ℕ) (x : ExprTree) (i r : Text) (q : Fault) → starts (among signs) i ≡ true → map_out next_of (part (paren n) i) ≡ Stops q r → joined_from (paren n) x i ≡ Stops q r
+joined_refused n x i r q h g = rw (series_refused (among signs) (part (paren n)) (part_progress n) i r q h (next_stops (part (paren n) i) q r g)) refl
+
+pub joined_ended : (n : ℕ) (x : ExprTree) (z : Choice) (i r : Text) → starts (among signs) i ≡ true → map_out next_of (part (paren n) i) ≡ Got (next_is.Last z) r
+    → joined_from (paren n) x i ≡ Got (joined (x, ([], Some z))) r
+joined_ended n x z i r h g = rw (series_ended (among signs) (part (paren n)) (part_progress n) i r z h (next_last (part (paren n) i) z r g)) refl
+
+pub joined_got : (n : ℕ) (x y : ExprTree) (s : Symbol) (i r : Text) → starts (among signs) i ≡ true → map_out next_of (part (paren n) i) ≡ Got (next_is.More s y) r
+    → joined_from (paren n) x i ≡ joined_from (paren n) (sum x (s, y)) r
+joined_got n x y s i r h g = rw (series_got (among signs) (part (paren n)) (part_progress n) i r (s, y) h (next_more (part (paren n) i) s y r g)) (map_twice _ _ _ (λ a. refl) (series (among signs) (part (paren n)) r))

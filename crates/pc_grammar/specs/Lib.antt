@@ -5,3 +5,4 @@ pub mod Rights
 pub mod Statements
 pub mod Programs
 pub mod Reads
+pub mod Next
