@@ -20,7 +20,7 @@ use Rattle.pc_syntax.specs.declared.normal.AffineFault.{AffineFault}
 use Rattle.pc_syntax.specs.declared.normal.AffineFault.TheVariants as affine
 use Rattle.pc_syntax.specs.declared.fault.SourceFault.{SourceFault}
 use Rattle.pc_syntax.specs.declared.fault.SourceFault.TheVariants as fault
-use Rattle.pc_syntax.specs.declared.reading.TheConstants.{EDGES}
+use Rattle.pc_syntax.specs.declared.limits.TheConstants.{EDGES}
 use Rattle.pc_syntax.specs.declared.tree.Expr.{Expr}
 use Rattle.pc_syntax.specs.declared.tree.Expr.TheVariants as e
 use Rattle.pc_syntax.specs.declared.tree.Compare.{Compare}
@@ -31,7 +31,8 @@ use Rattle.pc_syntax.specs.declared.tree.Stmt.{Stmt}
 use Rattle.pc_syntax.specs.declared.tree.Stmt.TheVariants as s
 use Rattle.pc_syntax.specs.declared.program.Program.{Program}
 use Rattle.pc_syntax.specs.Named.{Bytes, Named, number_of}
-use Rattle.pc_syntax.specs.Forms.{bind, fits, product, variable, difference_of, rows_by, fit_rows}
+use Rattle.pc_syntax.specs.Forms.{bind, fits, product, variable, difference_of, is_unequal, rows_by, fit_rows}
+use Rattle.pc_syntax.specs.Sane.{is_either}
 use Rattle.pc_syntax.specs.Machine.{end_of}
 
 -- the bytes that spell a symbol
@@ -74,16 +75,6 @@ pub record Formed : Type 0 where
 abbrev pub formed : Expr → Result Linear AffineFault → Result Formed SourceFault
 formed x form = bind (lifted form) (λ r. Ok (record { expr = x; form = r }))
 
-abbrev pub is_unequal : Op → Bool
-is_unequal op.Unequal = true
-is_unequal _ = false
-
--- a comparison with two rows
-abbrev pub is_either : Op → Bool
-is_either op.Equal = true
-is_either op.Unequal = true
-is_either _ = false
-
 -- `!=` stands only where a comparison is alone
 abbrev pub op_allowed : Bool → CompareTree → Result (Unit {0}) SourceFault
 op_allowed alone c = if is_unequal c.op && not alone then Err (fault.Unequal c.place) else Ok tt
@@ -107,7 +98,6 @@ rows_in (c ∷ cs) = (if is_either c.op then 2 else 1) + rows_in cs
 -- how many edges a test makes, where it holds and where it fails
 abbrev pub test_edges : TestTree → ℕ
 test_edges test.Any = 2
-test_edges (test.All (c ∷ [])) = if is_unequal c.op then 3 else 1 + rows_in (c ∷ [])
 test_edges (test.All cs) = 1 + rows_in cs
 
 -- a statement, with the edges up to its end
@@ -137,9 +127,9 @@ module _ (src : Bytes) (names : List Bytes) where
   abbrev pub expr_step : ExprTree-F (Result Formed SourceFault) → Result Formed SourceFault
   expr_step (expr.Num n) = Ok (record { expr = e.Num n; form = of_constant n })
   expr_step (expr.Name symbol) = bind (resolved src names symbol) (λ v. Ok (record { expr = e.Name v; form = variable v }))
-  expr_step (expr.Neg a p) = bind a (λ x. formed (e.Neg x.expr p) (fits p (scaled_by (negsuc 0) x.form)))
-  expr_step (expr.Add a b p) = bind a (λ x. bind b (λ y. formed (e.Add x.expr y.expr p) (fits p (sum_of x.form y.form))))
-  expr_step (expr.Sub a b p) = bind a (λ x. bind b (λ y. formed (e.Sub x.expr y.expr p) (fits p (difference_of x.form y.form))))
+  expr_step (expr.Neg a p) = bind a (λ x. formed (e.Neg x.expr p) (fits (affine.Past p) (scaled_by (negsuc 0) x.form)))
+  expr_step (expr.Add a b p) = bind a (λ x. bind b (λ y. formed (e.Add x.expr y.expr p) (fits (affine.Past p) (sum_of x.form y.form))))
+  expr_step (expr.Sub a b p) = bind a (λ x. bind b (λ y. formed (e.Sub x.expr y.expr p) (fits (affine.Past p) (difference_of x.form y.form))))
   expr_step (expr.Mul a b p) = bind a (λ x. bind b (λ y. formed (e.Mul x.expr y.expr p) (product p x.form y.form)))
 
   -- an expression: its parts from the left, inner ones before outer ones
