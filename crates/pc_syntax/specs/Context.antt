@@ -30,6 +30,9 @@ use Rattle.pc_syntax.specs.declared.tree.Right.{Right}
 use Rattle.pc_syntax.specs.declared.tree.Stmt.{Stmt}
 use Rattle.pc_syntax.specs.declared.tree.Stmt.TheVariants as s
 use Rattle.pc_syntax.specs.declared.program.Program.{Program}
+use Rattle.pc_syntax.specs.declared.walk.Formed.{Formed}
+use Rattle.pc_syntax.specs.declared.walk.Counted.{Counted}
+use Rattle.pc_syntax.specs.declared.walk.CountedList.{CountedList}
 use Rattle.pc_syntax.specs.Named.{Bytes, Named, number_of}
 use Rattle.pc_syntax.specs.Forms.{bind, fits, product, variable, difference_of, is_unequal, rows_by, fit_rows}
 use Rattle.pc_syntax.specs.Sane.{is_either}
@@ -67,11 +70,6 @@ abbrev pub lifted : {A : Type 0} → Result A AffineFault → Result A SourceFau
 lifted (Ok x) = Ok x
 lifted (Err f) = Err (source_fault f)
 
--- an expression with its normal form
-pub record Formed : Type 0 where
-  pub expr : Expr
-  pub form : Linear
-
 abbrev pub formed : Expr → Result Linear AffineFault → Result Formed SourceFault
 formed x form = bind (lifted form) (λ r. Ok (record { expr = x; form = r }))
 
@@ -99,15 +97,6 @@ rows_in (c ∷ cs) = (if is_either c.op then 2 else 1) + rows_in cs
 abbrev pub test_edges : TestTree → ℕ
 test_edges test.Any = 2
 test_edges (test.All cs) = 1 + rows_in cs
-
--- a statement, with the edges up to its end
-pub record Counted : Type 0 where
-  pub stmt : Stmt
-  pub edges : ℕ
-
-pub record CountedList : Type 0 where
-  pub stmts : List Stmt
-  pub edges : ℕ
 
 -- what a statement is after so many edges
 abbrev pub Walk : Type 0

@@ -9,9 +9,10 @@ mod normal;
 mod program;
 mod reading;
 mod tree;
+mod walk;
 
 pub use fault::SourceFault;
-pub use laws::{forms_are_right, rows_are_right};
+pub use laws::{forms_are_right, rows_are_right, walks_are_sane};
 pub use limits::{COMPARISONS, EDGES};
 pub use names::Names;
 pub use normal::AffineFault;
