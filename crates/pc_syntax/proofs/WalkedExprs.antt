@@ -4,7 +4,7 @@ use Rattle.std.specs.Prelude.{◌&&◌, IfOk, IfSome, nat_lt, is_ok, option_map}
 use Rattle.std.specs.Str.{bytes_eq}
 use Rattle.std.proofs.lemmas.Bool.Decides.{nat_tests}
 use Rattle.pc_text.specs.declared.place.Place.{Place}
-use Rattle.pc_rows.specs.Linear.{Linear, sum_of, scaled_by, of_constant}
+use Rattle.pc_rows.specs.Linear.{Linear, sum_of, difference_of, scaled_by, of_constant, in_range, fits}
 use Rattle.pc_rows.specs.declared.row.TheConstants.{VARIABLES}
 use Rattle.pc_grammar.specs.declared.symbol.Symbol.{Symbol}
 use Rattle.pc_grammar.specs.declared.tree.ExprTree.{ExprTree, fold-roll-ExprTree}
@@ -17,7 +17,7 @@ use Rattle.pc_syntax.specs.declared.normal.AffineFault.TheVariants.{NotAffine, P
 use Rattle.pc_syntax.specs.declared.fault.SourceFault.{SourceFault}
 use Rattle.pc_syntax.specs.declared.walk.Formed.{Formed}
 use Rattle.pc_syntax.specs.Named.{Bytes, number_of}
-use Rattle.pc_syntax.specs.Forms.{bind, in_range, fits, difference_of, variable, product, form_step, form_of, fit_step, is_fit, is_affine}
+use Rattle.pc_syntax.specs.Forms.{bind, variable, product, form_step, form_of, fit_step, is_fit, is_affine}
 use Rattle.pc_syntax.specs.Sane.{below_step, names_below, sane_expr}
 use Rattle.pc_syntax.specs.Context.{word, known, resolved, lifted, formed, expr_step, checked_expr}
 use Rattle.pc_syntax.specs.Trees.{fit_expr_step, fit_expr}

@@ -5,7 +5,7 @@ use Rattle.std.specs.List.{list_all}
 use Rattle.std.proofs.lemmas.Bool.Decides.{nat_tests}
 use Rattle.std.proofs.lemmas.Int.{ints}
 use Rattle.pc_text.specs.declared.place.Place.{Place}
-use Rattle.pc_rows.specs.Linear.{Linear}
+use Rattle.pc_rows.specs.Linear.{Linear, in_range}
 use Rattle.pc_rows.specs.declared.row.TheConstants.{VARIABLES}
 use Rattle.pc_grammar.specs.declared.tree.Op.{Op}
 use Rattle.pc_grammar.specs.declared.tree.Bound.{Bound}
@@ -26,7 +26,7 @@ use Rattle.pc_syntax.specs.declared.fault.SourceFault.TheVariants as fault
 use Rattle.pc_syntax.specs.declared.walk.Formed.{Formed}
 use Rattle.pc_syntax.specs.Named.{Bytes}
 use Rattle.pc_syntax.specs.Machine.{end_of}
-use Rattle.pc_syntax.specs.Forms.{bind, in_range, ok_or, form, is_unequal, rows_by, rows_of, row_fits, fit_rows}
+use Rattle.pc_syntax.specs.Forms.{bind, ok_or, form, is_unequal, rows_by, rows_of, row_fits, fit_rows}
 use Rattle.pc_syntax.specs.Sane as sane
 use Rattle.pc_syntax.specs.Context as walk
 use Rattle.pc_syntax.specs.Trees as trees

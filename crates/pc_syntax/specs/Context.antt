@@ -1,7 +1,7 @@
 -- The context rules: what a parse tree is a program of, in the order in which the rules are tested.
 use Rattle.std.specs.Prelude.{ℕ, ◌+◌, nat_lt, int_lt, negsuc, List, [], ◌∷◌, ◌++◌, length, map, slice_range, Option, Some, None, is_some, Bool, true, false, ◌&&◌, not, Result, Ok, Err, if◌then◌else◌}
 use Rattle.pc_text.specs.declared.place.Place.{Place}
-use Rattle.pc_rows.specs.Linear.{Linear, sum_of, scaled_by, of_constant}
+use Rattle.pc_rows.specs.Linear.{Linear, sum_of, difference_of, scaled_by, of_constant, fits}
 use Rattle.pc_rows.specs.declared.row.TheConstants.{VARIABLES}
 use Rattle.pc_grammar.specs.declared.symbol.Symbol.{Symbol}
 use Rattle.pc_grammar.specs.declared.tree.Op.{Op}
@@ -34,7 +34,7 @@ use Rattle.pc_syntax.specs.declared.walk.Formed.{Formed}
 use Rattle.pc_syntax.specs.declared.walk.Counted.{Counted}
 use Rattle.pc_syntax.specs.declared.walk.CountedList.{CountedList}
 use Rattle.pc_syntax.specs.Named.{Bytes, Named, number_of}
-use Rattle.pc_syntax.specs.Forms.{bind, fits, product, variable, difference_of, is_unequal, rows_by, fit_rows}
+use Rattle.pc_syntax.specs.Forms.{bind, product, variable, is_unequal, rows_by, fit_rows}
 use Rattle.pc_syntax.specs.Sane.{is_either}
 use Rattle.pc_syntax.specs.Machine.{end_of}
 

@@ -16,7 +16,7 @@ use Rattle.pc_grammar.specs.declared.tree.StmtTree.{StmtTree, StmtTree-F, fold-S
 use Rattle.pc_grammar.specs.declared.tree.StmtTree.TheOpen as stmt
 use Rattle.pc_grammar.specs.declared.tree.ProgramTree.{ProgramTree}
 use Rattle.pc_syntax.specs.declared.limits.TheConstants.{COMPARISONS}
-use Rattle.pc_syntax.specs.Forms.{in_range}
+use Rattle.pc_rows.specs.Linear.{in_range}
 use Rattle.pc_syntax.specs.Sane.{all_true}
 
 -- a symbol of a text of n bytes
