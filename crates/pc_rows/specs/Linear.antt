@@ -94,6 +94,10 @@ opposite_of r = record { constant = neg_ℤ r.constant; coefficients = negate_li
 abbrev pub difference_of : Linear → Linear → Linear
 difference_of a b = sum_of a (opposite_of b)
 
+-- a - b - 1
+abbrev pub above_of : Linear → Linear → Linear
+above_of a b = record { constant = a.constant -ℤ b.constant -ℤ pos 1; coefficients = add_lists a.coefficients (negate_list b.coefficients) }
+
 -- -r - 1, the row that is met exactly where r is not
 abbrev pub negation : Linear → Linear
 negation r = record { constant = neg_ℤ r.constant -ℤ pos 1; coefficients = negate_list r.coefficients }

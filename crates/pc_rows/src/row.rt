@@ -3,7 +3,8 @@
 ghost use Rattle.std.specs.Prelude.{◌≡◌, ◌<◌, ◌*ℤ◌, neg_ℤ, ◌+ℤ◌, OkIff, pos, replicate};
 ghost use Rattle.std.specs.Ordering.{int_eq};
 ghost use Rattle.std.specs.Cmp.Lexicographic.{pointwise};
-ghost use Rattle.pc_rows.specs.Linear.{InRange, IsInRange, IsRow, coefficient, of_constant, with_coefficient, sum_of, difference_of, scaled_by, opposite_of, negation};
+ghost use Rattle.pc_rows.specs.Linear.{InRange, IsInRange, IsRow, coefficient, of_constant, with_coefficient, sum_of, difference_of, above_of, scaled_by, opposite_of, negation, is_zero};
+ghost use Rattle.std.specs.List.{list_all};
 ghost use Rattle.pc_rows.specs.Joins.{is_always, is_at_most};
 
 use crate::number::{Number, Past};
@@ -107,6 +108,19 @@ impl Row {
         self.sum(&other.opposite())
     }
 
+    /// The difference less 1, the row that is met exactly where `self` is greater than `other`.
+    /// `Past` exactly where one of its numbers is not in range.
+    pub fn above(&self, other: &Row) -> Result<Row, Past>
+        ensures { OkIff result (IsInRange (above_of self.now other.now)) (above_of self.now other.now) }
+    {
+        let constant = self.constant.above(other.constant)?;
+        let coefficients = sums(&self.coefficients, &opposites(&other.coefficients))?;
+        Ok(Row {
+            constant,
+            coefficients,
+        })
+    }
+
     /// `k` times the row. `Past` exactly where one of its numbers is not in range.
     pub fn scaled(&self, k: i128) -> Result<Row, Past>
         requires { InRange k }
@@ -141,6 +155,13 @@ impl Row {
             constant: self.constant.negated(),
             coefficients: opposites(&self.coefficients),
         }
+    }
+
+    /// Whether the row has no variable.
+    pub fn is_number(&self) -> bool
+        ensures { result ≡ list_all is_zero self.now.coefficients }
+    {
+        are_zero(&self.coefficients)
     }
 
     /// Whether every state meets the row by its form: it has no variable, and a constant of at
