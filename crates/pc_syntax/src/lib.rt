@@ -15,7 +15,7 @@ pub use fault::SourceFault;
 pub use laws::{forms_are_right, rows_are_right, walks_are_sane};
 pub use limits::{COMPARISONS, EDGES};
 pub use names::Names;
-pub use normal::AffineFault;
+pub use normal::{AffineFault, affine};
 pub use pc_grammar::{Bound, Choice, Op};
 pub use program::Program;
 pub use reading::read;
