@@ -102,6 +102,10 @@ above_of a b = record { constant = a.constant -ℤ b.constant -ℤ pos 1; coeffi
 abbrev pub negation : Linear → Linear
 negation r = record { constant = neg_ℤ r.constant -ℤ pos 1; coefficients = negate_list r.coefficients }
 
+-- a row has no variable
+abbrev pub is_number : Linear → Bool
+is_number r = list_all is_zero r.coefficients
+
 -- the constant and each coefficient are in range
 abbrev pub IsInRange : Linear → Type 0
 IsInRange r = InRange r.constant × AllInRange r.coefficients

@@ -3,8 +3,7 @@
 ghost use Rattle.std.specs.Prelude.{◌≡◌, ◌<◌, ◌*ℤ◌, neg_ℤ, ◌+ℤ◌, OkIff, pos, replicate};
 ghost use Rattle.std.specs.Ordering.{int_eq};
 ghost use Rattle.std.specs.Cmp.Lexicographic.{pointwise};
-ghost use Rattle.pc_rows.specs.Linear.{InRange, IsInRange, IsRow, coefficient, of_constant, with_coefficient, sum_of, difference_of, above_of, scaled_by, opposite_of, negation, is_zero};
-ghost use Rattle.std.specs.List.{list_all};
+ghost use Rattle.pc_rows.specs.Linear.{InRange, IsInRange, IsRow, coefficient, of_constant, with_coefficient, sum_of, difference_of, above_of, scaled_by, opposite_of, negation, is_number};
 ghost use Rattle.pc_rows.specs.Joins.{is_always, is_at_most};
 
 use crate::number::{Number, Past};
@@ -159,7 +158,7 @@ impl Row {
 
     /// Whether the row has no variable.
     pub fn is_number(&self) -> bool
-        ensures { result ≡ list_all is_zero self.now.coefficients }
+        ensures { result ≡ is_number self.now }
     {
         are_zero(&self.coefficients)
     }

@@ -16,7 +16,8 @@ use Rattle.pc_syntax.specs.declared.normal.AffineFault.{AffineFault}
 use Rattle.pc_syntax.specs.declared.normal.AffineFault.TheVariants.{NotAffine, Past}
 use Rattle.pc_syntax.specs.declared.fault.SourceFault.{SourceFault}
 use Rattle.pc_syntax.specs.declared.walk.Formed.{Formed}
-use Rattle.pc_syntax.specs.Named.{Bytes, number_of}
+use Rattle.pc_text.specs.Named.{number_of}
+use Rattle.pc_text.specs.Bytes.{Bytes}
 use Rattle.pc_syntax.specs.Forms.{bind, variable, product, form_step, form_of, fit_step, is_fit, is_affine}
 use Rattle.pc_syntax.specs.Sane.{below_step, names_below, sane_expr}
 use Rattle.pc_syntax.specs.Context.{word, known, resolved, lifted, formed, expr_step, checked_expr}

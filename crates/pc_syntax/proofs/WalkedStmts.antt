@@ -23,7 +23,8 @@ use Rattle.pc_syntax.specs.declared.fault.SourceFault.{SourceFault}
 use Rattle.pc_syntax.specs.declared.fault.SourceFault.TheVariants as fault
 use Rattle.pc_syntax.specs.declared.walk.Counted.{Counted}
 use Rattle.pc_syntax.specs.declared.walk.CountedList.{CountedList}
-use Rattle.pc_syntax.specs.Named.{Bytes, number_of}
+use Rattle.pc_text.specs.Named.{number_of}
+use Rattle.pc_text.specs.Bytes.{Bytes}
 use Rattle.pc_syntax.specs.Forms.{bind}
 use Rattle.pc_syntax.specs.Sane as sane
 use Rattle.pc_syntax.specs.Context as walk

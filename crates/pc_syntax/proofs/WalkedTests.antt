@@ -24,7 +24,7 @@ use Rattle.pc_syntax.specs.declared.normal.AffineFault.TheVariants.{Past}
 use Rattle.pc_syntax.specs.declared.fault.SourceFault.{SourceFault}
 use Rattle.pc_syntax.specs.declared.fault.SourceFault.TheVariants as fault
 use Rattle.pc_syntax.specs.declared.walk.Formed.{Formed}
-use Rattle.pc_syntax.specs.Named.{Bytes}
+use Rattle.pc_text.specs.Bytes.{Bytes}
 use Rattle.pc_syntax.specs.Machine.{end_of}
 use Rattle.pc_syntax.specs.Forms.{bind, ok_or, form, is_unequal, rows_by, rows_of, row_fits, fit_rows}
 use Rattle.pc_syntax.specs.Sane as sane

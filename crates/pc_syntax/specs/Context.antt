@@ -33,7 +33,8 @@ use Rattle.pc_syntax.specs.declared.program.Program.{Program}
 use Rattle.pc_syntax.specs.declared.walk.Formed.{Formed}
 use Rattle.pc_syntax.specs.declared.walk.Counted.{Counted}
 use Rattle.pc_syntax.specs.declared.walk.CountedList.{CountedList}
-use Rattle.pc_syntax.specs.Named.{Bytes, Named, number_of}
+use Rattle.pc_text.specs.Named.{Named, number_of}
+use Rattle.pc_text.specs.Bytes.{Bytes}
 use Rattle.pc_syntax.specs.Forms.{bind, product, variable, is_unequal, rows_by, fit_rows}
 use Rattle.pc_syntax.specs.Sane.{is_either}
 use Rattle.pc_syntax.specs.Machine.{end_of}

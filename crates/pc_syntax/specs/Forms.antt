@@ -2,7 +2,7 @@
 use Rattle.std.specs.Prelude.{ℕ, ℤ, pos, negsuc, List, [], ◌∷◌, ◌++◌, Bool, true, false, ◌&&◌, not, nat_lt, is_ok, Result, Ok, Err, if◌then◌else◌}
 use Rattle.std.specs.List.{list_all}
 use Rattle.pc_text.specs.declared.place.Place.{Place}
-use Rattle.pc_rows.specs.Linear.{Linear, sum_of, scaled_by, difference_of, above_of, negation, of_constant, with_coefficient, is_zero, in_range, is_in_range, fits}
+use Rattle.pc_rows.specs.Linear.{Linear, sum_of, scaled_by, difference_of, above_of, negation, of_constant, with_coefficient, is_number, in_range, is_in_range, fits}
 use Rattle.pc_rows.specs.declared.row.TheConstants.{VARIABLES}
 use Rattle.pc_grammar.specs.declared.tree.Op.{Op}
 use Rattle.pc_grammar.specs.declared.tree.Op.TheVariants as op
@@ -16,10 +16,6 @@ use Rattle.pc_syntax.specs.declared.normal.AffineFault.TheVariants.{NotAffine, P
 abbrev pub bind : {A B E : Type 0} → Result A E → (A → Result B E) → Result B E
 bind (Ok x) f = f x
 bind (Err e) f = Err e
-
--- a form without variables
-abbrev pub is_number : Linear → Bool
-is_number r = list_all is_zero r.coefficients
 
 -- a variable alone
 abbrev pub variable : ℕ → Linear

@@ -1,7 +1,7 @@
 -- What the walk over a parse tree keeps.
 use Rattle.std.specs.Prelude.{◌≡◌, ℕ, true, Ok}
 use Rattle.pc_grammar.specs.declared.tree.ProgramTree.{ProgramTree}
-use Rattle.pc_syntax.specs.Named.{Bytes}
+use Rattle.pc_text.specs.Bytes.{Bytes}
 use Rattle.pc_syntax.specs.Context.{Content, checked}
 use Rattle.pc_syntax.specs.Sane.{is_sane}
 use Rattle.pc_syntax.specs.Trees.{fit_tree}

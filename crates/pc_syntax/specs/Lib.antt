@@ -5,6 +5,5 @@ pub mod Laws
 pub mod Sane
 pub mod Trees
 pub mod Machine
-pub mod Named
 pub mod Values
 pub mod Spelling

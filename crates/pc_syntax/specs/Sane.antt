@@ -17,7 +17,7 @@ use Rattle.pc_syntax.specs.declared.tree.Test.TheVariants as test
 use Rattle.pc_syntax.specs.declared.tree.Right.{Right}
 use Rattle.pc_syntax.specs.declared.tree.Stmt.{Stmt, Stmt-F, fold-Stmt}
 use Rattle.pc_syntax.specs.declared.tree.Stmt.TheOpen as stmt
-use Rattle.pc_syntax.specs.Named.{Named}
+use Rattle.pc_text.specs.Named.{Named}
 use Rattle.pc_syntax.specs.Forms.{is_affine, is_unequal, rows_of, row_fits}
 
 abbrev pub below_step : ℕ → Expr-F Bool → Bool
