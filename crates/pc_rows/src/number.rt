@@ -64,7 +64,8 @@ impl Number {
         }
     }
 
-    /// The difference less 1.
+    /// The number `self - other - 1`, which is at least 0 exactly where `self` is above `other`.
+    /// The difference alone may be out of range where this number is not.
     pub fn above(self, other: Number) -> Result<Number, Past>
         ensures { OkIff result (InRange (self -ℤ other -ℤ pos 1)) (self -ℤ other -ℤ pos 1) }
     {
