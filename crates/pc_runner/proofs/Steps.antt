@@ -18,7 +18,7 @@ use Rattle.pc_runner.specs.Range.{is_in_range}
 use Rattle.pc_runner.specs.Computed.{Computed, worked, in_expr, in_all, in_test, in_choice, in_right, in_stmt, computed, first_past}
 use Rattle.pc_runner.specs.Checked.{then_with, fits, evaluated, held, all_held, tested, with_choice, assigned, stepped_at, stepped}
 use Rattle.pc_runner.specs.Verdicts.{unless, taken}
-use Rattle.pc_runner.proofs.Exprs.{by_cases}
+use Rattle.pc_syntax.proofs.Exprs.{by_cases}
 
 -- ---- the first value past the range of two lists
 

@@ -4,3 +4,6 @@ pub mod Checked
 pub mod Stack
 pub mod Verdicts
 pub mod Runs
+pub mod Words
+pub mod Scripts
+pub mod Answers

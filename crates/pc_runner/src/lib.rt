@@ -3,12 +3,17 @@
 
 mod arithmetic;
 mod evaluation;
+mod fault;
 mod machine;
+mod reading;
 mod runs;
 mod script;
 mod testing;
 mod verdict;
+mod words;
 
+pub use fault::ScriptFault;
 pub use runs::run;
 pub use script::{CHOICES, Script};
 pub use verdict::Verdict;
+pub use words::{first_word, is_numeral, number_of};

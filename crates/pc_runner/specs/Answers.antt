@@ -1,0 +1,17 @@
+-- Answers that may want memory.
+use Rattle.std.specs.Prelude.{◌≡◌, Result, Ok, Err}
+use Rattle.pc_runner.specs.declared.fault.ScriptFault.{ScriptFault}
+use Rattle.pc_runner.specs.declared.fault.ScriptFault.TheVariants as fault
+
+-- what holds of a fault other than want of memory
+abbrev pub Unless : ScriptFault → Type 0 → Type 0
+Unless fault.NoMemory P = Unit {0}
+Unless (fault.Form n) P = P
+Unless (fault.Number n) P = P
+Unless (fault.Values m n) P = P
+Unless (fault.Many n) P = P
+
+-- the call gives this answer, unless memory is wanting
+abbrev pub Gives : {A : Type 0} → Result A ScriptFault → Result A ScriptFault → Type 0
+Gives (Ok x) answer = answer ≡ Ok x
+Gives (Err e) answer = Unless e (answer ≡ Err e)
