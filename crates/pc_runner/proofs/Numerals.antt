@@ -13,7 +13,7 @@ use Rattle.pc_text.specs.Numerals.{positive_len, signed_len, numeral_len, intege
 use Rattle.pc_runner.specs.Range.{is_in_range}
 use Rattle.pc_runner.specs.Words.{is_empty, is_positive, is_numeral}
 
-and_is : (b c : Bool) → (b && c) ≡ true → (b ≡ true) × (c ≡ true)
+pub and_is : (b c : Bool) → (b && c) ≡ true → (b ≡ true) × (c ≡ true)
 and_is true c h = (refl, h)
 and_is false c h = cc
 

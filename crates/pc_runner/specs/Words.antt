@@ -1,5 +1,5 @@
 -- Words of a line, and the numerals among them.
-use Rattle.std.specs.Prelude.{ℕ, nat_eq, nat_le, Bool, true, false, ◌&&◌, if◌then◌else◌, List, [], ◌∷◌, Option, Some, None}
+use Rattle.std.specs.Prelude.{ℕ, suc, length, nat_eq, nat_le, Bool, true, false, ◌&&◌, if◌then◌else◌, List, [], ◌∷◌, Option, Some, None}
 use Rattle.std.specs.Borrow.{Bor}
 use Rattle.std.specs.List.{list_all, slice_split}
 use Rattle.pc_text.specs.Bytes.{Bytes}
@@ -16,6 +16,11 @@ words line = slice_split is_space line
 abbrev pub words_left : Option (Bor Bytes) → List Bytes
 words_left None = []
 words_left (Some rest) = words rest.now
+
+-- the bytes of what follows a space, and the space
+abbrev pub bytes_left : Option (Bor Bytes) → ℕ
+bytes_left None = 0
+bytes_left (Some rest) = suc (length rest.now)
 
 abbrev pub is_empty : Bytes → Bool
 is_empty [] = true

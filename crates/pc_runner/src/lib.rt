@@ -13,7 +13,7 @@ mod verdict;
 mod words;
 
 pub use fault::ScriptFault;
+pub use reading::read_script;
 pub use runs::run;
 pub use script::{CHOICES, Script};
 pub use verdict::Verdict;
-pub use words::{first_word, is_numeral, number_of};

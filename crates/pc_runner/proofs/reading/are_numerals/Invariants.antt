@@ -1,7 +1,6 @@
 use Rattle.std.proofs.Common.{◌≡◌}
 use Rattle.std.specs.List.{list_all}
-use Rattle.pc_runner.specs.Words.{is_numeral, words_left}
-use Rattle.pc_runner.proofs.Parts.{bytes_left}
+use Rattle.pc_runner.specs.Words.{bytes_left, is_numeral, words_left}
 use Rattle.pc_runner.proofs.reading.are_numerals.Given as goal
 
 abbrev pub invariant-words : goal.invariant-words
