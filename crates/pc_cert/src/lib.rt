@@ -1,13 +1,9 @@
-// A library with one function.
+//! Conditions as text.
 #![tactic(auto)]
 
-ghost use Rattle.std.specs.Prelude.{◌≡◌};
-ghost use Rattle.pc_cert.specs.Echo.{echo_of};
+ghost use Rattle.pc_cert.specs.Law.{TextDeterminesCondition};
 
-// The `ensures` clause is the contract: what `echo` returns is `echo_of` of its argument, a definition
-// in `specs/Echo.antt`, which a caller's clause can cite too.
-pub fn echo(x: usize) -> usize
-    ensures { result ≡ echo_of x }
-{
-    x
-}
+/// For given names, which differ, the text of a condition determines the condition.
+pub fn text_determines_condition()
+    ensures { TextDeterminesCondition }
+{}

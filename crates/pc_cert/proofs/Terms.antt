@@ -1,0 +1,214 @@
+-- The parts of a row determine the row.
+use Rattle.std.proofs.Common.{◌≡◌, ◌≢◌, ◌⊎◌, inl, inr, ℕ, zero, suc, ◌<◌, ◌≤◌, Bool, true, false, cond, eqb, List, [], ◌∷◌, ◌++◌, length, get_or, drop, refl, sym, ap, ◌∙◌, append_assoc, arith, ℤ, pos, negsuc}
+use Rattle.std.specs.Prelude.{All, codes, unsigned_abs}
+use Rattle.std.specs.List.{AllByRecursion, AllPairs}
+use Rattle.std.proofs.lemmas.List.Elements.{All-head, All-tail}
+use Rattle.std.proofs.lemmas.List.{append-nil}
+use Rattle.std.proofs.lemmas.Bool.{eqb-true, cond_both}
+use Rattle.pc_rows.specs.Linear.{Linear, is_zero}
+use Rattle.pc_cert.specs.Numerals.{decimal, numeral}
+use Rattle.pc_cert.specs.Conditions.{Bytes, Part, is_negative, times_name, term, constant_part, terms, with_constant}
+use Rattle.pc_cert.specs.Law.{IsDigit, IsLetter, IsName}
+use Rattle.pc_cert.proofs.Splits.{Stops, Begins, same_cut, each-append, each_weaker, begins-append, begins_weaker}
+use Rattle.pc_cert.proofs.Decimals.{decimal_digits, decimal_begins, decimal_injective}
+use Rattle.pc_cert.proofs.Parts.{IsPartByte, IsPart, AreParts}
+
+-- a name begins with no digit, and holds none of the bytes that end a part
+pub record StandsAlone (name : Bytes) : Type 0 where
+  pub begins : Begins (λ b. 58 ≤ b) name
+  pub bytes : AllByRecursion IsPartByte name
+
+letter_byte : (b : ℕ) → IsLetter b → (58 ≤ b) × (b ≢ 62)
+letter_byte b (inl h) = (omega (arith, h.0), λ e. absurd (omega (arith, h.0)))
+letter_byte b (inr (inl h)) = (omega (arith, h.0), λ e. absurd (omega (arith, h.0)))
+letter_byte b (inr (inr h)) = (omega (arith, h), λ e. absurd (omega (arith, h)))
+
+name_byte : (b : ℕ) → IsLetter b ⊎ IsDigit b → IsPartByte b
+name_byte b (inl h) = let g = letter_byte b h in (omega (arith, g.0), g.1)
+name_byte b (inr h) = (omega (arith, h.0), λ e. absurd (omega (arith, h.1)))
+
+name_bytes : (u : Bytes) → All (λ c. IsLetter c ⊎ IsDigit c) u → AllByRecursion IsPartByte u
+name_bytes [] h = tt
+name_bytes (b ∷ u) h =
+    (name_byte b (All-head (λ c. IsLetter c ⊎ IsDigit c) b u h), name_bytes u (All-tail (λ c. IsLetter c ⊎ IsDigit c) b u h))
+
+pub name_stands_alone : (name : Bytes) → IsName name → StandsAlone name
+name_stands_alone [] h = absurd h
+name_stands_alone (b ∷ u) h =
+    let first = letter_byte b h.0 in
+    record { begins = first.0; bytes = ((omega (arith, first.0), first.1), name_bytes u h.1) }
+
+decimal_bytes : (n : ℕ) → AllByRecursion IsPartByte (decimal n)
+decimal_bytes n = each_weaker IsDigit IsPartByte (λ b h. (omega (arith, h.0), λ e. absurd (omega (arith, h.1)))) (decimal n) (decimal_digits n)
+
+decimal_begins_high : (n : ℕ) → Begins (λ b. 48 ≤ b) (decimal n)
+decimal_begins_high n = begins_weaker IsDigit (λ b. 48 ≤ b) (λ b h. h.0) (decimal n) (decimal_begins n)
+
+product_bytes : (n : ℕ) (name : Bytes) → StandsAlone name → AllByRecursion IsPartByte (decimal n ++ codes "*" ++ name)
+product_bytes n name h =
+    let star : AllByRecursion IsPartByte (codes "*") = ((omega arith, λ e. absurd (omega arith)), tt) in
+    each-append IsPartByte (decimal n ++ codes "*") name (each-append IsPartByte (decimal n) (codes "*") (decimal_bytes n) star) h.bytes
+
+product_begins : (P : ℕ → Type 0) (n : ℕ) (name : Bytes) → Begins P (decimal n) → Begins P (decimal n ++ codes "*" ++ name)
+product_begins P n name h = begins-append P (decimal n ++ codes "*") name (begins-append P (decimal n) (codes "*") h)
+
+term_is_part : (name : Bytes) (c : ℤ) → StandsAlone name → IsPart (term name c)
+term_is_part name c h =
+    let n = unsigned_abs c in
+    record {
+      bytes = cond_both (eqb n 1) name (decimal n ++ codes "*" ++ name) (AllByRecursion IsPartByte) (λ _. h.bytes) (λ _. product_bytes n name h);
+      begins =
+        cond_both (eqb n 1) name (decimal n ++ codes "*" ++ name) (Begins (λ b. 48 ≤ b))
+        (λ _. begins_weaker (λ b. 58 ≤ b) (λ b. 48 ≤ b) (λ b g. omega (arith, g)) name h.begins)
+        (λ _. product_begins (λ b. 48 ≤ b) n name (decimal_begins_high n));
+    }
+
+constant_is_part : (c : ℤ) → IsPart (constant_part c)
+constant_is_part c = record { bytes = decimal_bytes (unsigned_abs c); begins = decimal_begins_high (unsigned_abs c) }
+
+-- what begins with a digit does not begin as a name does
+digit_no_name : (u v : Bytes) → Begins IsDigit u → Begins (λ b. 58 ≤ b) v → u ≡ v → ⊥
+digit_no_name [] v at_u at_v e = at_u
+digit_no_name (b ∷ u) [] at_u at_v e = at_v
+digit_no_name (b ∷ u) (c ∷ v) at_u at_v e = let same : b ≡ c = cc in absurd (omega (arith, at_u.1))
+
+star_stops : (u : Bytes) → Stops IsDigit (codes "*" ++ u)
+star_stops u = λ h. absurd (omega (arith, h.0))
+
+same_product : (m n : ℕ) (u v : Bytes) → decimal m ++ codes "*" ++ u ≡ decimal n ++ codes "*" ++ v → (m ≡ n) × (u ≡ v)
+same_product m n u v e =
+    let split = rw (append_assoc (decimal m) (codes "*") u, append_assoc (decimal n) (codes "*") v) at e in
+    let cut = same_cut IsDigit (decimal m) (decimal n) _ _ (decimal_digits m) (decimal_digits n) (star_stops u) (star_stops v) split in
+    (decimal_injective m n cut.0, ap (drop 1) cut.1)
+
+same_by : (b c : Bool) (m n : ℕ) (u v : Bytes) → StandsAlone u → StandsAlone v → eqb m 1 ≡ b → eqb n 1 ≡ c → cond b u (decimal m ++ codes "*" ++ u) ≡ cond c v (decimal n ++ codes "*" ++ v) → (m ≡ n) × (u ≡ v)
+same_by true true m n u v h g one_m one_n e = (eqb-true m 1 one_m ∙ sym (eqb-true n 1 one_n), e)
+same_by true false m n u v h g one_m one_n e =
+    absurd (digit_no_name _ _ (product_begins IsDigit n v (decimal_begins n)) h.begins (sym e))
+same_by false true m n u v h g one_m one_n e = absurd (digit_no_name _ _ (product_begins IsDigit m u (decimal_begins m)) g.begins e)
+same_by false false m n u v h g one_m one_n e = same_product m n u v e
+
+-- a term's text determines its number and its name
+same_times : (m n : ℕ) (u v : Bytes) → StandsAlone u → StandsAlone v → times_name m u ≡ times_name n v → (m ≡ n) × (u ≡ v)
+same_times m n u v h g e = same_by (eqb m 1) (eqb n 1) m n u v h g refl refl e
+
+no_times_by : (b : Bool) (k n : ℕ) (v : Bytes) → StandsAlone v → decimal k ≡ cond b v (decimal n ++ codes "*" ++ v) → ⊥
+no_times_by true k n v h e = digit_no_name (decimal k) v (decimal_begins k) h.begins e
+no_times_by false k n v h e =
+    let split = append-nil (decimal k) ∙ e ∙ append_assoc (decimal n) (codes "*") v in
+    let cut = same_cut IsDigit (decimal k) (decimal n) [] _ (decimal_digits k) (decimal_digits n) tt (star_stops v) split in
+    let apart = cut.1 in
+    cc
+
+-- a number is no term
+no_times : (k n : ℕ) (v : Bytes) → StandsAlone v → decimal k ≡ times_name n v → ⊥
+no_times k n v h e = no_times_by (eqb n 1) k n v h e
+
+same_number : (c d : ℤ) → is_negative c ≡ is_negative d → unsigned_abs c ≡ unsigned_abs d → c ≡ d
+same_number (pos m) (pos n) sign size = ap pos size
+same_number (pos m) (negsuc n) sign size = absurd (cc)
+same_number (negsuc m) (pos n) sign size = absurd (cc)
+same_number (negsuc m) (negsuc n) sign size = let same : m ≡ n = cc in ap negsuc same
+
+same_term : (u v : Bytes) (c d : ℤ) → StandsAlone u → StandsAlone v → term u c ≡ term v d → (u ≡ v) × (c ≡ d)
+same_term u v c d h g e =
+    let size = same_times (unsigned_abs c) (unsigned_abs d) u v h g (ap (λ (p : Part). p.size) e) in
+    (size.1, same_number c d (ap (λ (p : Part). p.is_negative) e) size.0)
+
+same_constant : (c d : ℤ) → constant_part c ≡ constant_part d → c ≡ d
+same_constant c d e =
+    same_number c d (ap (λ (p : Part). p.is_negative) e)
+    (decimal_injective (unsigned_abs c) (unsigned_abs d) (ap (λ (p : Part). p.size) e))
+
+-- none of these parts is a term
+abbrev NoTerm : List Part → Type 0
+NoTerm ps = AllByRecursion (λ p. (name : Bytes) (d : ℤ) → StandsAlone name → p ≡ term name d → ⊥) ps
+
+no_term_constant : (c : ℤ) → NoTerm (constant_part c ∷ [])
+no_term_constant c = (λ name d h e. no_times (unsigned_abs c) (unsigned_abs d) name h (ap (λ (p : Part). p.size) e), tt)
+
+abbrev Alone : List Bytes → Type 0
+Alone names = AllByRecursion StandsAlone names
+
+no_term_of_by : (b : Bool) (ps t : List Part) (p q : Part) (rest : List Part) → (p ≡ q → ⊥) → (ps ++ t ≡ q ∷ rest → ⊥) → cond b ps (p ∷ ps) ++ t ≡ q ∷ rest → ⊥
+no_term_of_by true ps t p q rest apart again e = again e
+no_term_of_by false ps t p q rest apart again e = let same : p ≡ q = cc in apart same
+
+-- no term of the later names, and no constant, is a term of this name
+no_term_of : (names : List Bytes) (cs : List ℤ) (t : List Part) (name : Bytes) (d : ℤ) (rest : List Part) → Alone names → StandsAlone name → All (λ other. name ≢ other) names → NoTerm t → terms names cs ++ t ≡ term name d ∷ rest → ⊥
+no_term_of [] cs [] name d rest alone h apart none e = cc
+no_term_of [] cs (p ∷ t) name d rest alone h apart none e = let same : p ≡ term name d = cc in none.0 name d h same
+no_term_of (u ∷ names) [] [] name d rest alone h apart none e = cc
+no_term_of (u ∷ names) [] (p ∷ t) name d rest alone h apart none e = let same : p ≡ term name d = cc in none.0 name d h same
+no_term_of (u ∷ names) (c ∷ cs) t name d rest alone h apart none e =
+    no_term_of_by (is_zero c) (terms names cs) t (term u c) (term name d) rest
+    (λ same. All-head (λ other. name ≢ other) u names apart (sym (same_term u name c d alone.0 h same).0))
+    (no_term_of names cs t name d rest alone.1 h (All-tail (λ other. name ≢ other) u names apart) none)
+    e
+
+-- each coefficient from this variable on is 0
+abbrev ZeroFrom : ℕ → List ℤ → Type 0
+ZeroFrom n cs = (v : ℕ) → n ≤ v → get_or cs v (pos 0) ≡ pos 0
+
+zero_later : (n : ℕ) (c : ℤ) (cs : List ℤ) → ZeroFrom (suc n) (c ∷ cs) → ZeroFrom n cs
+zero_later n c cs h = λ v after. h (suc v) (omega (arith, after))
+
+same_zeros : (cs ds : List ℤ) → length cs ≡ length ds → ZeroFrom 0 cs → ZeroFrom 0 ds → cs ≡ ds
+same_zeros [] [] long h g = refl
+same_zeros [] (d ∷ ds) long h g = absurd (cc)
+same_zeros (c ∷ cs) [] long h g = absurd (cc)
+same_zeros (c ∷ cs) (d ∷ ds) long h g =
+    let shorter : length cs ≡ length ds = cc in
+    let rest : cs ≡ ds = same_zeros cs ds shorter (λ v after. h (suc v) (omega arith)) (λ v after. g (suc v) (omega arith)) in
+    let first : c ≡ pos 0 = h 0 (omega arith) in
+    let second : d ≡ pos 0 = g 0 (omega arith) in
+    cc
+
+zero_if : (c : ℤ) → is_zero c ≡ true → c ≡ pos 0
+zero_if (pos n) e = ap pos (eqb-true n 0 e)
+zero_if (negsuc n) e = absurd (cc)
+
+abbrev Same : List ℤ → List ℤ → List Part → List Part → Type 0
+Same cs ds t u = (cs ≡ ds) × (t ≡ u)
+
+module _ (name : Bytes) (names : List Bytes) (h : StandsAlone name) (alone : Alone names) (apart : All (λ other. name ≢ other) names) where
+  step :
+      (b b' : Bool) (c d : ℤ) (cs ds : List ℤ) (t u : List Part) →
+      NoTerm t → NoTerm u → is_zero c ≡ b → is_zero d ≡ b' →
+      (terms names cs ++ t ≡ terms names ds ++ u → Same cs ds t u) →
+      cond b (terms names cs) (term name c ∷ terms names cs) ++ t ≡ cond b' (terms names ds) (term name d ∷ terms names ds) ++ u →
+      Same (c ∷ cs) (d ∷ ds) t u
+  step true true c d cs ds t u no_t no_u zero_c zero_d again e =
+      let rest = again e in
+      let first : c ≡ d = zero_if c zero_c ∙ sym (zero_if d zero_d) in
+      let tail : cs ≡ ds = rest.0 in
+      (cc, rest.1)
+  step true false c d cs ds t u no_t no_u zero_c zero_d again e = absurd (no_term_of names cs t name d _ alone h apart no_t e)
+  step false true c d cs ds t u no_t no_u zero_c zero_d again e = absurd (no_term_of names ds u name c _ alone h apart no_u (sym e))
+  step false false c d cs ds t u no_t no_u zero_c zero_d again e =
+      let head : term name c ≡ term name d = cc in
+      let behind : terms names cs ++ t ≡ terms names ds ++ u = cc in
+      let rest = again behind in
+      let first : c ≡ d = (same_term name name c d h h head).1 in
+      let tail : cs ≡ ds = rest.0 in
+      (cc, rest.1)
+
+pairs_first : (name : Bytes) (names : List Bytes) → AllPairs ◌≢◌ (name ∷ names) → All (λ other. name ≢ other) names
+pairs_first name names h = λ k d within. h 0 (suc k) d (omega arith) (omega (arith, within))
+
+pairs_later : (name : Bytes) (names : List Bytes) → AllPairs ◌≢◌ (name ∷ names) → AllPairs ◌≢◌ names
+pairs_later name names h = λ i j d before within. h (suc i) (suc j) d (omega (arith, before)) (omega (arith, within))
+
+same_terms :
+    (names : List Bytes) (cs ds : List ℤ) (t u : List Part) →
+    Alone names → AllPairs ◌≢◌ names → NoTerm t → NoTerm u → length cs ≡ length ds → ZeroFrom (length names) cs → ZeroFrom (length names) ds →
+    terms names cs ++ t ≡ terms names ds ++ u → Same cs ds t u
+same_terms [] cs ds t u alone apart no_t no_u long h g e = (same_zeros cs ds long h g, e)
+same_terms (name ∷ names) [] [] t u alone apart no_t no_u long h g e = (refl, e)
+same_terms (name ∷ names) [] (d ∷ ds) t u alone apart no_t no_u long h g e = absurd (cc)
+same_terms (name ∷ names) (c ∷ cs) [] t u alone apart no_t no_u long h g e = absurd (cc)
+same_terms (name ∷ names) (c ∷ cs) (d ∷ ds) t u alone apart no_t no_u long h g e =
+    let shorter : length cs ≡ length ds = cc in
+    step name names alone.0 alone.1 (pairs_first name names apart) (is_zero c) (is_zero d) c d cs ds t u no_t no_u refl refl
+    (same_terms names cs ds t u alone.1 (pairs_later name names apart) no_t no_u shorter (zero_later _ c cs h) (zero_later _ d ds g))
+    e
