@@ -2,3 +2,4 @@ pub mod Splits
 pub mod Decimals
 pub mod Parts
 pub mod Terms
+pub mod Lines

@@ -8,7 +8,7 @@ use Rattle.std.proofs.lemmas.Bool.{eqb-true, cond_both}
 use Rattle.pc_rows.specs.Linear.{Linear, is_zero}
 use Rattle.pc_cert.specs.Numerals.{decimal, numeral}
 use Rattle.pc_cert.specs.Conditions.{Bytes, Part, is_negative, times_name, term, constant_part, terms, with_constant}
-use Rattle.pc_cert.specs.Law.{IsDigit, IsLetter, IsName}
+use Rattle.pc_cert.specs.Law.{IsDigit, IsLetter, IsName, AreNames, IsOver}
 use Rattle.pc_cert.proofs.Splits.{Stops, Begins, same_cut, each-append, each_weaker, begins-append, begins_weaker}
 use Rattle.pc_cert.proofs.Decimals.{decimal_digits, decimal_begins, decimal_injective}
 use Rattle.pc_cert.proofs.Parts.{IsPartByte, IsPart, AreParts}
@@ -212,3 +212,98 @@ same_terms (name ∷ names) (c ∷ cs) (d ∷ ds) t u alone apart no_t no_u long
     step name names alone.0 alone.1 (pairs_first name names apart) (is_zero c) (is_zero d) c d cs ds t u no_t no_u refl refl
     (same_terms names cs ds t u alone.1 (pairs_later name names apart) no_t no_u shorter (zero_later _ c cs h) (zero_later _ d ds g))
     e
+
+-- what stands behind the terms of a row with this constant
+abbrev constant_behind : List Part → ℤ → List Part
+constant_behind [] k = constant_part k ∷ []
+constant_behind (p ∷ ps) k = cond (is_zero k) [] (constant_part k ∷ [])
+
+by_zero : (b : Bool) (ps : List Part) (p : Part) → cond b ps (ps ++ p ∷ []) ≡ ps ++ cond b [] (p ∷ [])
+by_zero true ps p = sym (append-nil ps)
+by_zero false ps p = refl
+
+with_constant_is : (ps : List Part) (k : ℤ) → with_constant ps k ≡ ps ++ constant_behind ps k
+with_constant_is [] k = refl
+with_constant_is (p ∷ ps) k = by_zero (is_zero k) (p ∷ ps) (constant_part k)
+
+-- either nothing, where the constant is 0, or the constant
+abbrev TellsConstant : List Part → ℤ → Type 0
+TellsConstant t k = ((t ≡ []) × (k ≡ pos 0)) ⊎ (t ≡ constant_part k ∷ [])
+
+tells_by : (b : Bool) (k : ℤ) → is_zero k ≡ b → TellsConstant (cond b [] (constant_part k ∷ [])) k
+tells_by true k e = inl (refl, zero_if k e)
+tells_by false k e = inr refl
+
+constant_told : (ps : List Part) (k : ℤ) → TellsConstant (constant_behind ps k) k
+constant_told [] k = inr refl
+constant_told (p ∷ ps) k = tells_by (is_zero k) k refl
+
+same_told : (t u : List Part) (j k : ℤ) → TellsConstant t j → TellsConstant u k → t ≡ u → j ≡ k
+same_told t u j k (inl h) (inl g) e = h.1 ∙ sym g.1
+same_told t u j k (inl h) (inr g) e = let first = h.0 in absurd (cc)
+same_told t u j k (inr h) (inl g) e = let second = g.0 in absurd (cc)
+same_told t u j k (inr h) (inr g) e = let same : constant_part j ≡ constant_part k = cc in same_constant j k same
+
+no_term_behind_by : (b : Bool) (k : ℤ) → NoTerm (cond b [] (constant_part k ∷ []))
+no_term_behind_by true k = tt
+no_term_behind_by false k = no_term_constant k
+
+no_term_behind : (ps : List Part) (k : ℤ) → NoTerm (constant_behind ps k)
+no_term_behind [] k = no_term_constant k
+no_term_behind (p ∷ ps) k = no_term_behind_by (is_zero k) k
+
+-- the parts of a row
+abbrev pub parts : List Bytes → Linear → List Part
+parts names r = with_constant (terms names r.coefficients) r.constant
+
+row_of : ℤ → List ℤ → Linear
+row_of constant coefficients = record { constant = constant; coefficients = coefficients }
+
+same_linear : (r q : Linear) → r.constant ≡ q.constant → r.coefficients ≡ q.coefficients → r ≡ q
+unfolding row_of
+same_linear r q constant coefficients = ap (λ c. row_of c r.coefficients) constant ∙ ap (row_of q.constant) coefficients
+
+pub all_alone : (names : List Bytes) → All IsName names → AllByRecursion StandsAlone names
+all_alone [] h = tt
+all_alone (name ∷ names) h =
+    (name_stands_alone name (All-head IsName name names h), all_alone names (All-tail IsName name names h))
+
+pub same_parts : (names : List Bytes) (r q : Linear) → AreNames names → IsOver names r → IsOver names q → parts names r ≡ parts names q → r ≡ q
+same_parts names r q h over_r over_q e =
+    let t = constant_behind (terms names r.coefficients) r.constant in
+    let u = constant_behind (terms names q.coefficients) q.constant in
+    let split = sym (with_constant_is (terms names r.coefficients) r.constant) ∙ e ∙ with_constant_is (terms names q.coefficients) q.constant in
+    let same = same_terms names r.coefficients q.coefficients t u (all_alone names h.form) h.apart
+        (no_term_behind (terms names r.coefficients) r.constant) (no_term_behind (terms names q.coefficients) q.constant)
+        (over_r.long ∙ sym over_q.long) over_r.within over_q.within split in
+    same_linear r q
+    (same_told t u r.constant q.constant (constant_told (terms names r.coefficients) r.constant) (constant_told (terms names q.coefficients) q.constant) same.1)
+    same.0
+
+terms_by : (b : Bool) (p : Part) (ps : List Part) → IsPart p → AreParts ps → AreParts (cond b ps (p ∷ ps))
+terms_by true p ps h g = g
+terms_by false p ps h g = (h, g)
+
+terms_are_parts : (names : List Bytes) (cs : List ℤ) → Alone names → AreParts (terms names cs)
+terms_are_parts [] cs h = tt
+terms_are_parts (name ∷ names) [] h = tt
+terms_are_parts (name ∷ names) (c ∷ cs) h =
+    terms_by (is_zero c) (term name c) (terms names cs) (term_is_part name c h.0) (terms_are_parts names cs h.1)
+
+parts_append : (ps qs : List Part) → AreParts ps → AreParts qs → AreParts (ps ++ qs)
+parts_append [] qs h g = g
+parts_append (p ∷ ps) qs h g = (h.0, parts_append ps qs h.1 g)
+
+behind_by : (b : Bool) (k : ℤ) → AreParts (cond b [] (constant_part k ∷ []))
+behind_by true k = tt
+behind_by false k = (constant_is_part k, tt)
+
+behind_are_parts : (ps : List Part) (k : ℤ) → AreParts (constant_behind ps k)
+behind_are_parts [] k = (constant_is_part k, tt)
+behind_are_parts (p ∷ ps) k = behind_by (is_zero k) k
+
+pub parts_are_parts : (names : List Bytes) (r : Linear) → AreNames names → AreParts (parts names r)
+parts_are_parts names r h =
+    let ps = terms names r.coefficients in
+    rw (with_constant_is ps r.constant)
+    (parts_append ps (constant_behind ps r.constant) (terms_are_parts names r.coefficients (all_alone names h.form)) (behind_are_parts ps r.constant))
