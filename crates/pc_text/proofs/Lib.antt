@@ -1,0 +1,7 @@
+pub mod Digits
+pub mod PlaceLemmas
+pub mod LongestLemmas
+pub mod LexMeans
+pub mod LexOnly
+pub mod Spans
+pub mod Steps
