@@ -3,7 +3,7 @@ use Rattle.std.proofs.Common.{◌≡◌, ℕ, zero, suc, ◌+◌, ◌-◌, ◌*�
 use Rattle.std.specs.List.{AllByRecursion}
 use Rattle.std.specs.Int.Digits.{digits_of, AllBelowBase, number_from_digits}
 use Rattle.std.proofs.lemmas.Int.Digits.{all_below_base_digits_of, number_digits_of, first_digits_of}
-use Rattle.pc_cert.specs.Numerals.{decimal}
+use Rattle.pc_text.specs.Printed.{decimal}
 use Rattle.pc_cert.specs.Law.{IsDigit}
 use Rattle.pc_cert.proofs.Splits.{Begins}
 

@@ -5,7 +5,8 @@ use Rattle.std.specs.List.{AllByRecursion, flat_map}
 use Rattle.std.proofs.lemmas.List.{append_cancel_right, append-nil}
 use Rattle.std.proofs.lemmas.List.Elements.{All-head, All-tail}
 use Rattle.pc_rows.specs.Linear.{Linear}
-use Rattle.pc_cert.specs.Conditions.{Bytes, sum_text, row_text, rows_text, line_text, condition_text}
+use Rattle.pc_text.specs.Bytes.{Bytes}
+use Rattle.pc_cert.specs.Conditions.{sum_text, row_text, rows_text, line_text, condition_text}
 use Rattle.pc_cert.specs.Law.{AreNames, IsOver, AreOver, TextDeterminesCondition}
 use Rattle.pc_cert.proofs.Splits.{Stops, same_cut, each-append, each_weaker}
 use Rattle.pc_cert.proofs.Parts.{IsSumByte, AreParts, sum_text_bytes, same_sum}

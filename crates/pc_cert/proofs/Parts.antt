@@ -1,7 +1,8 @@
 -- The text of a sum determines its parts.
 use Rattle.std.proofs.Common.{◌≡◌, ◌≢◌, ℕ, ◌≤◌, Bool, true, false, List, [], ◌∷◌, ◌++◌, drop, get_or, refl, sym, ap, ◌∙◌, arith, append_assoc}
 use Rattle.std.specs.List.{AllByRecursion, flat_map}
-use Rattle.pc_cert.specs.Conditions.{Bytes, Part, first_sign, later_sign, later_part, sum_text}
+use Rattle.pc_text.specs.Bytes.{Bytes}
+use Rattle.pc_cert.specs.Conditions.{Part, sign, part_text, sum_text}
 use Rattle.pc_cert.proofs.Splits.{Stops, Begins, same_cut, each-append, each_weaker}
 
 -- the bytes of parts: digits, letters, `_` and `*`
@@ -23,48 +24,48 @@ AreParts ps = AllByRecursion IsPart ps
 sum_bytes : (p : Part) → IsPart p → AllByRecursion IsSumByte p.size
 sum_bytes p h = each_weaker IsPartByte IsSumByte (λ b g. (omega (arith, g.0), g.1)) p.size h.bytes
 
-first_sign_bytes : (b : Bool) → AllByRecursion IsSumByte (first_sign b)
+first_sign_bytes : (b : Bool) → AllByRecursion IsSumByte (sign true b)
 first_sign_bytes true = ((omega arith, λ e. absurd (omega arith)), tt)
 first_sign_bytes false = tt
 
-later_sign_bytes : (b : Bool) → AllByRecursion IsSumByte (later_sign b)
+later_sign_bytes : (b : Bool) → AllByRecursion IsSumByte (sign false b)
 later_sign_bytes true =
     ((omega arith, λ e. absurd (omega arith)), ((omega arith, λ e. absurd (omega arith)), ((omega arith, λ e. absurd (omega arith)), tt)))
 later_sign_bytes false =
     ((omega arith, λ e. absurd (omega arith)), ((omega arith, λ e. absurd (omega arith)), ((omega arith, λ e. absurd (omega arith)), tt)))
 
-later_bytes : (ps : List Part) → AreParts ps → AllByRecursion IsSumByte (flat_map later_part ps)
+later_bytes : (ps : List Part) → AreParts ps → AllByRecursion IsSumByte (flat_map (part_text false) ps)
 later_bytes [] h = tt
 later_bytes (p ∷ ps) h =
-    let part = each-append IsSumByte (later_sign p.is_negative) p.size (later_sign_bytes p.is_negative) (sum_bytes p h.0) in
-    each-append IsSumByte (later_part p) (flat_map later_part ps) part (later_bytes ps h.1)
+    let part = each-append IsSumByte (sign false p.is_negative) p.size (later_sign_bytes p.is_negative) (sum_bytes p h.0) in
+    each-append IsSumByte (part_text false p) (flat_map (part_text false) ps) part (later_bytes ps h.1)
 
 pub sum_text_bytes : (ps : List Part) → AreParts ps → AllByRecursion IsSumByte (sum_text ps)
 sum_text_bytes [] h = tt
 sum_text_bytes (p ∷ ps) h =
-    let part = each-append IsSumByte (first_sign p.is_negative) p.size (first_sign_bytes p.is_negative) (sum_bytes p h.0) in
-    each-append IsSumByte (first_sign p.is_negative ++ p.size) (flat_map later_part ps) part (later_bytes ps h.1)
+    let part = each-append IsSumByte (sign true p.is_negative) p.size (first_sign_bytes p.is_negative) (sum_bytes p h.0) in
+    each-append IsSumByte (sign true p.is_negative ++ p.size) (flat_map (part_text false) ps) part (later_bytes ps h.1)
 
-sign_stops : (b : Bool) (x : Bytes) → Stops IsPartByte (later_sign b ++ x)
+sign_stops : (b : Bool) (x : Bytes) → Stops IsPartByte (sign false b ++ x)
 sign_stops true x = λ h. absurd (omega (arith, h.0))
 sign_stops false x = λ h. absurd (omega (arith, h.0))
 
 -- after a part comes a space, or the end
-later_stops : (ps : List Part) → Stops IsPartByte (flat_map later_part ps)
+later_stops : (ps : List Part) → Stops IsPartByte (flat_map (part_text false) ps)
 later_stops [] = tt
-later_stops (p ∷ ps) = rw (append_assoc (later_sign p.is_negative) p.size (flat_map later_part ps)) (sign_stops p.is_negative _)
+later_stops (p ∷ ps) = rw (append_assoc (sign false p.is_negative) p.size (flat_map (part_text false) ps)) (sign_stops p.is_negative _)
 
-same_later_sign : (b c : Bool) (x y : Bytes) → later_sign b ++ x ≡ later_sign c ++ y → (b ≡ c) × (x ≡ y)
+same_later_sign : (b c : Bool) (x y : Bytes) → sign false b ++ x ≡ sign false c ++ y → (b ≡ c) × (x ≡ y)
 same_later_sign true true x y e = (refl, ap (drop 3) e)
 same_later_sign true false x y e = let apart : ◌≡◌ {A = ℕ} 45 43 = ap (λ z. get_or z 1 0) e in absurd (omega arith)
 same_later_sign false true x y e = let apart : ◌≡◌ {A = ℕ} 43 45 = ap (λ z. get_or z 1 0) e in absurd (omega arith)
 same_later_sign false false x y e = (refl, ap (drop 3) e)
 
-later_some : (b : Bool) (s x : Bytes) → [] ≡ (later_sign b ++ s) ++ x → ⊥
+later_some : (b : Bool) (s x : Bytes) → [] ≡ (sign false b ++ s) ++ x → ⊥
 later_some true s x e = cc
 later_some false s x e = cc
 
-first_some : (b : Bool) (s x : Bytes) → Begins (λ b. 48 ≤ b) s → [] ≡ (first_sign b ++ s) ++ x → ⊥
+first_some : (b : Bool) (s x : Bytes) → Begins (λ b. 48 ≤ b) s → [] ≡ (sign true b ++ s) ++ x → ⊥
 first_some true s x h e = cc
 first_some false [] x h e = h
 first_some false (b ∷ s) x h e = cc
@@ -73,7 +74,7 @@ not_minus : (s x y : Bytes) → Begins (λ b. 48 ≤ b) s → 45 ∷ x ≡ s ++ 
 not_minus [] x y h e = h
 not_minus (b ∷ s) x y h e = let minus : 45 ≡ b = cc in absurd (omega arith)
 
-same_first_sign : (b c : Bool) (s t x y : Bytes) → Begins (λ b. 48 ≤ b) s → Begins (λ b. 48 ≤ b) t → first_sign b ++ (s ++ x) ≡ first_sign c ++ (t ++ y) → (b ≡ c) × (s ++ x ≡ t ++ y)
+same_first_sign : (b c : Bool) (s t x y : Bytes) → Begins (λ b. 48 ≤ b) s → Begins (λ b. 48 ≤ b) t → sign true b ++ (s ++ x) ≡ sign true c ++ (t ++ y) → (b ≡ c) × (s ++ x ≡ t ++ y)
 same_first_sign true true s t x y at_s at_t e = (refl, cc)
 same_first_sign true false s t x y at_s at_t e = absurd (not_minus t (s ++ x) y at_t e)
 same_first_sign false true s t x y at_s at_t e = absurd (not_minus s (t ++ y) x at_s (sym e))
@@ -86,12 +87,12 @@ same_part : (p q : Part) → p.is_negative ≡ q.is_negative → p.size ≡ q.si
 unfolding part_of
 same_part p q sign size = ap (λ b. part_of b p.size) sign ∙ ap (part_of q.is_negative) size
 
-same_later : (ps qs : List Part) → AreParts ps → AreParts qs → flat_map later_part ps ≡ flat_map later_part qs → ps ≡ qs
+same_later : (ps qs : List Part) → AreParts ps → AreParts qs → flat_map (part_text false) ps ≡ flat_map (part_text false) qs → ps ≡ qs
 same_later [] [] h g e = refl
-same_later [] (q ∷ qs) h g e = absurd (later_some q.is_negative q.size (flat_map later_part qs) e)
-same_later (p ∷ ps) [] h g e = absurd (later_some p.is_negative p.size (flat_map later_part ps) (sym e))
+same_later [] (q ∷ qs) h g e = absurd (later_some q.is_negative q.size (flat_map (part_text false) qs) e)
+same_later (p ∷ ps) [] h g e = absurd (later_some p.is_negative p.size (flat_map (part_text false) ps) (sym e))
 same_later (p ∷ ps) (q ∷ qs) h g e =
-    let split = rw (append_assoc (later_sign p.is_negative) p.size (flat_map later_part ps), append_assoc (later_sign q.is_negative) q.size (flat_map later_part qs)) at e in
+    let split = rw (append_assoc (sign false p.is_negative) p.size (flat_map (part_text false) ps), append_assoc (sign false q.is_negative) q.size (flat_map (part_text false) qs)) at e in
     let sign = same_later_sign p.is_negative q.is_negative _ _ split in
     let cut = same_cut IsPartByte p.size q.size _ _ h.0.bytes g.0.bytes (later_stops ps) (later_stops qs) sign.1 in
     let front : p ≡ q = same_part p q sign.0 cut.0 in
@@ -100,10 +101,10 @@ same_later (p ∷ ps) (q ∷ qs) h g e =
 
 pub same_sum : (ps qs : List Part) → AreParts ps → AreParts qs → sum_text ps ≡ sum_text qs → ps ≡ qs
 same_sum [] [] h g e = refl
-same_sum [] (q ∷ qs) h g e = absurd (first_some q.is_negative q.size (flat_map later_part qs) g.0.begins e)
-same_sum (p ∷ ps) [] h g e = absurd (first_some p.is_negative p.size (flat_map later_part ps) h.0.begins (sym e))
+same_sum [] (q ∷ qs) h g e = absurd (first_some q.is_negative q.size (flat_map (part_text false) qs) g.0.begins e)
+same_sum (p ∷ ps) [] h g e = absurd (first_some p.is_negative p.size (flat_map (part_text false) ps) h.0.begins (sym e))
 same_sum (p ∷ ps) (q ∷ qs) h g e =
-    let split = rw (append_assoc (first_sign p.is_negative) p.size (flat_map later_part ps), append_assoc (first_sign q.is_negative) q.size (flat_map later_part qs)) at e in
+    let split = rw (append_assoc (sign true p.is_negative) p.size (flat_map (part_text false) ps), append_assoc (sign true q.is_negative) q.size (flat_map (part_text false) qs)) at e in
     let sign = same_first_sign p.is_negative q.is_negative p.size q.size _ _ h.0.begins g.0.begins split in
     let cut = same_cut IsPartByte p.size q.size _ _ h.0.bytes g.0.bytes (later_stops ps) (later_stops qs) sign.1 in
     let front : p ≡ q = same_part p q sign.0 cut.0 in

@@ -1,11 +1,9 @@
 -- The printed texts of a row, of rows together and of a condition, over the names of the variables.
-use Rattle.std.specs.Prelude.{◌≡◌, ◌≤◌, ℕ, ℤ, pos, negsuc, unsigned_abs, Bool, true, false, not, ◌&&◌, ◌==◌, if◌then◌else◌, List, [], ◌∷◌, ◌++◌, codes}
+use Rattle.std.specs.Prelude.{◌≡◌, ◌≤◌, ℕ, ℤ, pos, negsuc, unsigned_abs, Bool, true, false, ◌==◌, if◌then◌else◌, List, [], ◌∷◌, ◌++◌, codes}
 use Rattle.std.specs.List.{flat_map, join_by}
 use Rattle.pc_rows.specs.Linear.{Linear, coefficient, is_zero}
-use Rattle.pc_cert.specs.Numerals.{numeral}
-
-abbrev pub Bytes : Type 0
-Bytes = List ℕ
+use Rattle.pc_text.specs.Bytes.{Bytes}
+use Rattle.pc_text.specs.Printed.{numeral}
 
 -- a part of a sum, with its sign apart
 pub record Part : Type 0 where
@@ -37,23 +35,24 @@ abbrev pub with_constant : List Part → ℤ → List Part
 with_constant [] c = constant_part c ∷ []
 with_constant (p ∷ ps) c = if is_zero c then (p ∷ ps) else ((p ∷ ps) ++ constant_part c ∷ [])
 
--- the sign of the first part, by whether it is negative
-abbrev pub first_sign : Bool → Bytes
-first_sign true = codes "-"
-first_sign false = []
+-- the sign of a part, by whether it is the first one and whether it is negative
+abbrev pub sign : Bool → Bool → Bytes
+sign true true = codes "-"
+sign true false = []
+sign false true = codes " - "
+sign false false = codes " + "
 
--- the sign of a later part
-abbrev pub later_sign : Bool → Bytes
-later_sign true = codes " - "
-later_sign false = codes " + "
+abbrev pub part_text : Bool → Part → Bytes
+part_text is_first p = sign is_first p.is_negative ++ p.size
 
-abbrev pub later_part : Part → Bytes
-later_part p = later_sign p.is_negative ++ p.size
-
--- the parts in order, each behind its sign
+-- the parts in order
 abbrev pub sum_text : List Part → Bytes
 sum_text [] = []
-sum_text (p ∷ ps) = first_sign p.is_negative ++ p.size ++ flat_map later_part ps
+sum_text (p ∷ ps) = part_text true p ++ flat_map (part_text false) ps
+
+abbrev pub is_empty : List Part → Bool
+is_empty [] = true
+is_empty (p ∷ ps) = false
 
 -- a row: its terms, its constant, and that their sum is not negative
 abbrev pub row_text : List Bytes → Linear → Bytes

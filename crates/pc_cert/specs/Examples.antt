@@ -1,7 +1,8 @@
 -- Texts worked by hand.
 use Rattle.std.specs.Prelude.{◌≡◌, List, [], ◌∷◌, codes, ℤ, pos, negsuc, refl}
 use Rattle.pc_rows.specs.Linear.{Linear}
-use Rattle.pc_cert.specs.Conditions.{Bytes, row_text, condition_text}
+use Rattle.pc_text.specs.Bytes.{Bytes}
+use Rattle.pc_cert.specs.Conditions.{row_text, condition_text}
 
 abbrev row : ℤ → List ℤ → Linear
 row constant coefficients = record { constant = constant; coefficients = coefficients }

@@ -3,7 +3,8 @@ use Rattle.std.specs.Prelude.{◌≡◌, ◌≢◌, ◌⊎◌, ◌≤◌, ℕ, L
 use Rattle.std.specs.List.{AllPairs, AllByRecursion}
 use Rattle.pc_rows.specs.Linear.{Linear}
 use Rattle.pc_rows.specs.declared.row.TheConstants.{VARIABLES}
-use Rattle.pc_cert.specs.Conditions.{Bytes, IsWithin, condition_text}
+use Rattle.pc_text.specs.Bytes.{Bytes}
+use Rattle.pc_cert.specs.Conditions.{IsWithin, condition_text}
 
 abbrev pub IsDigit : ℕ → Type 0
 IsDigit b = (48 ≤ b) × (b ≤ 57)

@@ -1,9 +1,8 @@
 //! Conditions as text.
 #![tactic(auto)]
 
-ghost use Rattle.pc_cert.specs.Law.{TextDeterminesCondition};
+mod condition;
+mod row;
 
-/// For given names, which differ, the text of a condition determines the condition.
-pub fn text_determines_condition()
-    ensures { TextDeterminesCondition }
-{}
+pub use condition::text_determines_condition;
+pub use row::push_row;
