@@ -1,17 +1,16 @@
-use Rattle.std.proofs.Common.{◌≡◌, ℕ, ◌<◌, ℤ, pos, negsuc, ◌+ℤ◌, ◌-ℤ◌, ◌*ℤ◌, refl, sym, ap, subst, ◌∙◌, arith, ◌≤ℤ◌, List, length, get_or, set, Bool, true, false, cond}
+-- A state meets a row carried back over an assignment exactly where all its successors meet the row.
+use Rattle.std.proofs.Common.{◌≡◌, ℕ, zero, suc, ◌<◌, ℤ, pos, negsuc, ◌+ℤ◌, ◌-ℤ◌, ◌*ℤ◌, refl, sym, ap, subst, ◌∙◌, arith, ◌≤ℤ◌, List, [], ◌∷◌, length, get_or, set, Bool, true, false, cond}
 use Rattle.std.specs.Prelude.{◌↔◌, int_lt}
 use Rattle.std.proofs.lemmas.Int.{ints}
 use Rattle.std.proofs.Math.IntN.{zero-*ℤ}
-use Rattle.pc_rows.specs.Linear.{Linear, scale_list, dot, value, Meets, carried, AllSuccessorsMeet, SubstitutionIsExact, coefficient, lesser, is_zero}
-use Rattle.pc_rows.proofs.Ring.{mul_add, mul_le, mul_neg_left}
-use Rattle.pc_rows.proofs.Lists.{dot-add_lists, dot-scale_list, dot-set, dot-moved}
-
-pub zero_is : (c : ℤ) → is_zero c ≡ true → c ≡ pos 0
-zero_is (pos n) h = grind arith
-zero_is (negsuc n) h = cc
+use Rattle.pc_rows.specs.Linear.{Linear, State, scale_list, dot, value, Meets, coefficient, is_zero}
+use Rattle.pc_rows.specs.Substitution.{carried, lesser, AllSuccessorsMeet}
+use Rattle.pc_rows.specs.Laws.{SubstitutionIsExact}
+use Rattle.pc_rows.proofs.Ring.{mul_add, mul_le, mul_neg_left, le_refl_z}
+use Rattle.pc_rows.proofs.Lists.{zero_is, dot-add_lists, dot-scale_list, dot-set, dot-moved}
 
 -- the value of the row carried back, and of the row at a successor
-carried_value : (r form : Linear) (x : ℕ) (lo hi : ℤ) (s : List ℤ) → x < length r.coefficients →
+pub carried_value : (r form : Linear) (x : ℕ) (lo hi : ℤ) (s : State) → x < length r.coefficients →
     value (carried r x form lo hi) s +ℤ coefficient r x *ℤ get_or s x (pos 0)
     ≡ value r s +ℤ coefficient r x *ℤ value form s +ℤ lesser (coefficient r x *ℤ lo) (coefficient r x *ℤ hi)
 carried_value r form x lo hi s h =
@@ -23,7 +22,7 @@ carried_value r form x lo hi s h =
     let e5 = mul_add c form.constant (dot form.coefficients s) in
     omega (arith, ints)
 
-moved_value : (r form : Linear) (x : ℕ) (c : ℤ) (s : List ℤ) → x < length s →
+pub moved_value : (r form : Linear) (x : ℕ) (c : ℤ) (s : State) → x < length s →
     value r (set s x (value form s +ℤ c)) +ℤ coefficient r x *ℤ get_or s x (pos 0)
     ≡ value r s +ℤ coefficient r x *ℤ value form s +ℤ coefficient r x *ℤ c
 moved_value r form x c s h =
@@ -36,13 +35,11 @@ lesser_le : (a lo hi c : ℤ) → lo ≤ℤ c → c ≤ℤ hi → lesser (a *ℤ
 lesser_le (pos n) lo hi c p q = let g = mul_le n lo c p in let g' = mul_le n c hi q in grind (arith, ints)
 lesser_le (negsuc n) lo hi c p q = let g = mul_neg_left n lo c p in let g' = mul_neg_left n c hi q in grind (arith, ints)
 
-lesser_is : (a b : ℤ) (P : ℤ → Type 0) → P a → P b → P (lesser a b)
+-- and it is one of the two
+pub lesser_is : (a b : ℤ) (P : ℤ → Type 0) → P a → P b → P (lesser a b)
 lesser_is a b P p q = elim (int_lt b a) as (λ t. P (cond t b a)) [ true ↦ q | false ↦ p ]
 
-le_refl_z : (a : ℤ) → a ≤ℤ a
-le_refl_z a = omega (arith, ints)
-
-carried_is_exact : (r form : Linear) (x : ℕ) (lo hi : ℤ) (s : List ℤ) → x < length s → x < length r.coefficients → lo ≤ℤ hi →
+carried_is_exact : (r form : Linear) (x : ℕ) (lo hi : ℤ) (s : State) → x < length s → x < length r.coefficients → lo ≤ℤ hi →
     Meets s (carried r x form lo hi) ↔ AllSuccessorsMeet s x form lo hi r
 carried_is_exact r form x lo hi s h k le = (
   (λ m c p q.
@@ -64,7 +61,7 @@ carried_is_exact r form x lo hi s h k le = (
 )
 
 -- a row without the variable does not change
-kept_value : (r form : Linear) (x : ℕ) (c : ℤ) (s : List ℤ) → x < length s → coefficient r x ≡ pos 0 → value r (set s x (value form s +ℤ c)) ≡ value r s
+kept_value : (r form : Linear) (x : ℕ) (c : ℤ) (s : State) → x < length s → coefficient r x ≡ pos 0 → value r (set s x (value form s +ℤ c)) ≡ value r s
 kept_value r form x c s h z =
     let b = moved_value r form x c s h in
     let e = ap (λ (a : ℤ). a *ℤ get_or s x (pos 0)) z ∙ zero-*ℤ (get_or s x (pos 0)) in
@@ -72,14 +69,20 @@ kept_value r form x c s h z =
     let e3 = ap (λ (a : ℤ). a *ℤ c) z ∙ zero-*ℤ c in
     omega (arith, ints)
 
-by_zero : (r form : Linear) (x : ℕ) (lo hi : ℤ) (s : List ℤ) → x < length s → x < length r.coefficients → lo ≤ℤ hi → (t : Bool) → is_zero (coefficient r x) ≡ t →
+-- a row has a place for each variable whose coefficient is not 0
+pub has_place : (cs : List ℤ) (x : ℕ) → is_zero (get_or cs x (pos 0)) ≡ false → x < length cs
+has_place [] x e = cc
+has_place (c ∷ cs) zero e = omega arith
+has_place (c ∷ cs) (suc x) e = let h = has_place cs x e in omega arith
+
+by_zero : (r form : Linear) (x : ℕ) (lo hi : ℤ) (s : State) → x < length s → lo ≤ℤ hi → (t : Bool) → is_zero (coefficient r x) ≡ t →
     Meets s (cond t r (carried r x form lo hi)) ↔ AllSuccessorsMeet s x form lo hi r
-by_zero r form x lo hi s h k le true e =
+by_zero r form x lo hi s h le true e =
     let z = zero_is (coefficient r x) e in (
       (λ m c p q. subst (λ v. pos 0 ≤ℤ v) (sym (kept_value r form x c s h z)) m),
       (λ all. subst (λ v. pos 0 ≤ℤ v) (kept_value r form x lo s h z) (all lo (le_refl_z lo) le)),
     )
-by_zero r form x lo hi s h k le false e = carried_is_exact r form x lo hi s h k le
+by_zero r form x lo hi s h le false e = carried_is_exact r form x lo hi s h (has_place r.coefficients x e) le
 
 pub substitution_is_exact : SubstitutionIsExact
-substitution_is_exact r form x lo hi s h k le = by_zero r form x lo hi s h k le (is_zero (coefficient r x)) refl
+substitution_is_exact r form x lo hi s h le = by_zero r form x lo hi s h le (is_zero (coefficient r x)) refl
