@@ -3,3 +3,4 @@ pub mod Decimals
 pub mod Parts
 pub mod Terms
 pub mod Lines
+pub mod Growing

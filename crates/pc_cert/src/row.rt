@@ -1,6 +1,6 @@
-ghost use Rattle.std.specs.Prelude.{◌≡◌, ◌++◌, length, codes, IfOk, OnOk, OnErr};
-ghost use Rattle.pc_rows.specs.Linear.{InRange};
-ghost use Rattle.pc_cert.specs.Conditions.{sign, part_text, term, constant_part, terms, with_constant, is_empty, sum_text, row_text, IsWithin};
+ghost use Rattle.std.specs.Prelude.{◌≡◌, ◌<◌, ◌++◌, [], ◌&&◌, not, if◌then◌else◌, length, codes, slice_index_or, IfOk, OnOk, OnErr};
+ghost use Rattle.pc_rows.specs.Linear.{InRange, is_zero, coefficient};
+ghost use Rattle.pc_cert.specs.Conditions.{sign, part_text, times_name, term, constant_part, terms, with_constant, is_empty, sum_text, row_text, IsWithin};
 
 use pc_rows::{Row, VARIABLES};
 use pc_text::{Names, NoMemory, Text};
@@ -17,10 +17,24 @@ fn push_sign(text: &mut Text, is_first: bool, is_negative: bool) -> Result<(), N
     }
 }
 
-fn push_term(text: &mut Text, is_first: bool, c: i128, name: &[u8]) -> Result<(), NoMemory>
-    requires { InRange c }
-    ensures { OnOk result (text.new ≡ text.old ++ part_text is_first (term name.now c)) }
+fn has_term(r: &Row, v: u32) -> bool
+    requires { v < VARIABLES }
+    ensures { result ≡ not (is_zero (coefficient r.now v)) }
 {
+    r.coefficient(v) != 0
+}
+
+fn push_term(
+    text: &mut Text,
+    is_first: bool,
+    r: &Row,
+    v: u32,
+    name: &[u8],
+) -> Result<(), NoMemory>
+    requires { v < VARIABLES }
+    ensures { OnOk result (text.new ≡ text.old ++ part_text is_first (term name.now (coefficient r.now v))) }
+{
+    let c = r.coefficient(v);
     push_sign(text, is_first, c < 0)?;
     let n = c.abs();
     if n != 1 {
@@ -30,29 +44,33 @@ fn push_term(text: &mut Text, is_first: bool, c: i128, name: &[u8]) -> Result<()
     text.push_all(name)
 }
 
-fn push_constant(text: &mut Text, is_first: bool, c: i128) -> Result<(), NoMemory>
-    requires { InRange c }
-    ensures { OnOk result (text.new ≡ text.old ++ part_text is_first (constant_part c)) }
-{
-    push_sign(text, is_first, c < 0)?;
-    text.push_number(c.abs())
-}
-
-/// Appends the terms of the row to a text that is empty, and answers whether there are none.
+/// Appends the terms of the row, and answers whether there are none.
 fn push_terms(text: &mut Text, r: &Row, names: &Names) -> Result<bool, NoMemory>
-    requires { IsWithin (length names.now.names) r.now }
+    requires wide { length r.now.coefficients ≡ VARIABLES }
+    requires within { IsWithin (length names.now.names) r.now }
     ensures { IfOk result (λ none. (none ≡ is_empty (terms names.now.names r.now.coefficients))
         × (text.new ≡ text.old ++ sum_text (terms names.now.names r.now.coefficients))) }
 {
     let mut is_first = true;
     for v in 0..VARIABLES as u32 {
-        let c = r.coefficient(v);
-        if c != 0 {
-            push_term(text, is_first, c, names.at(v))?;
+        if has_term(r, v) {
+            push_term(text, is_first, r, v, names.at(v))?;
             is_first = false;
         }
     }
     Ok(is_first)
+}
+
+/// Appends the constant of the row where it is not 0 or is the first part.
+fn push_constant(text: &mut Text, is_first: bool, r: &Row) -> Result<(), NoMemory>
+    ensures { OnOk result (text.new ≡ text.old ++ (if is_zero r.now.constant && not is_first then [] else (part_text is_first (constant_part r.now.constant)))) }
+{
+    let c = r.constant();
+    if c == 0 && !is_first {
+        return Ok(());
+    }
+    push_sign(text, is_first, c < 0)?;
+    text.push_number(c.abs())
 }
 
 /// The text of the row, apart from other texts.
@@ -60,12 +78,10 @@ fn text_of(alloc: Global, r: &Row, names: &Names) -> Result<Text, NoMemory>
     requires { IsWithin (length names.now.names) r.now }
     ensures { IfOk result (λ text. text ≡ row_text names.now.names r.now) }
 {
+    let _ = r.constant();
     let mut text = Text::new(alloc);
     let is_first = push_terms(&mut text, r, names)?;
-    let c = r.constant();
-    if c != 0 || is_first {
-        push_constant(&mut text, is_first, c)?;
-    }
+    push_constant(&mut text, is_first, r)?;
     text.push_all(b" >= 0")?;
     Ok(text)
 }
