@@ -9,7 +9,7 @@ use Rattle.pc_text.specs.declared.token.LexFault.{LexFault}
 use Rattle.pc_text.specs.declared.token.LexFault.TheVariants.{LiteralTooBig, NameTooLong}
 use Rattle.pc_text.specs.declared.token.TheConstants.{LARGEST, NAME_BYTES}
 use Rattle.pc_text.specs.Bytes.{Bytes}
-use Rattle.pc_text.specs.Numerals.{number_of}
+use Rattle.pc_text.specs.Digits.{natural_of}
 use Rattle.pc_text.specs.Places.{place_of}
 use Rattle.pc_text.specs.Lexemes.{Lexeme, Leads, Fits, total, word_kind, kind_of, with_token}
 use Rattle.pc_text.specs.Longest.{longest}
@@ -37,10 +37,10 @@ module _ (s b : Bytes) (at : ℕ) where
   word w first again m true e = ([], b, refl, tt, (ap (place_of s) here, lexeme form.Word w, first, refl, ltb-true NAME_BYTES (length w) e))
   word w first again m false e = onto (lexeme form.Word w) first (again (length w - 1)) m (ltb-false NAME_BYTES (length w) e)
 
-  number : (w : Bytes) (first : Leads (lexeme form.Number w) b) (again : ℕ → Answer) → MeansAt s (at + length w) first.rest (again (length w - 1)) → (c : Bool) → nat_lt LARGEST (number_of w) ≡ c
-      → MeansAt s at b (with_piece at (with_length (length w) (cond c (Err (LiteralTooBig (place_of s at))) (Ok (Some (kind.Number (pos (number_of w))))))) again)
-  number w first again m true e = ([], b, refl, tt, (ap (place_of s) here, lexeme form.Number w, first, refl, ltb-true LARGEST (number_of w) e))
-  number w first again m false e = onto (lexeme form.Number w) first (again (length w - 1)) m (ltb-false LARGEST (number_of w) e)
+  number : (w : Bytes) (first : Leads (lexeme form.Number w) b) (again : ℕ → Answer) → MeansAt s (at + length w) first.rest (again (length w - 1)) → (c : Bool) → nat_lt LARGEST (natural_of w) ≡ c
+      → MeansAt s at b (with_piece at (with_length (length w) (cond c (Err (LiteralTooBig (place_of s at))) (Ok (Some (kind.Number (pos (natural_of w))))))) again)
+  number w first again m true e = ([], b, refl, tt, (ap (place_of s) here, lexeme form.Number w, first, refl, ltb-true LARGEST (natural_of w) e))
+  number w first again m false e = onto (lexeme form.Number w) first (again (length w - 1)) m (ltb-false LARGEST (natural_of w) e)
 
   -- the longest lexeme, and what the rest means
   piece : (f : Form) (w : Bytes) (first : Leads (lexeme f w) b) (again : ℕ → Answer) → MeansAt s (at + length w) first.rest (again (length w - 1))
@@ -48,7 +48,7 @@ module _ (s b : Bytes) (at : ℕ) where
   piece form.Blank w first again m = onto (lexeme form.Blank w) first (again (length w - 1)) m tt
   piece form.Comment w first again m = onto (lexeme form.Comment w) first (again (length w - 1)) m tt
   piece form.Word w first again m = word w first again m (nat_lt NAME_BYTES (length w)) refl
-  piece form.Number w first again m = number w first again m (nat_lt LARGEST (number_of w)) refl
+  piece form.Number w first again m = number w first again m (nat_lt LARGEST (natural_of w)) refl
   piece form.Sign w first again m = onto (lexeme form.Sign w) first (again (length w - 1)) m tt
 
 front : (s : Bytes) (at b : ℕ) (r : Bytes) (o : Option (Form × ℕ)) → longest (b ∷ r) ≡ o → ((k : ℕ) → MeansAt s (at + 1 + k) (drop k r) (lex_from s k (at + 1) r))

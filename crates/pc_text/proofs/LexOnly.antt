@@ -13,7 +13,7 @@ use Rattle.pc_text.specs.declared.token.LexFault.TheVariants.{NoMemory, BadByte,
 use Rattle.pc_text.specs.declared.token.TheConstants.{LARGEST, NAME_BYTES}
 use Rattle.pc_text.specs.declared.place.Place.{Place}
 use Rattle.pc_text.specs.Bytes.{Bytes}
-use Rattle.pc_text.specs.Numerals.{number_of}
+use Rattle.pc_text.specs.Digits.{natural_of}
 use Rattle.pc_text.specs.Places.{place_of}
 use Rattle.pc_text.specs.Lexemes.{class, HasForm, Lexeme, Leads, LedByNone, IsSplit, Fits, AllFit, total, kind_of, tokens_from}
 use Rattle.pc_text.specs.Longest.{longest}
@@ -110,7 +110,7 @@ fits_kind : (p : Place) (f : Form) (w : Bytes) → Fits f w → kind_at p f w �
 fits_kind p form.Blank w h = refl
 fits_kind p form.Comment w h = refl
 fits_kind p form.Word w h = rw (le-ltb NAME_BYTES (length w) h) refl
-fits_kind p form.Number w h = rw (le-ltb LARGEST (number_of w) h) refl
+fits_kind p form.Number w h = rw (le-ltb LARGEST (natural_of w) h) refl
 fits_kind p form.Sign w h = refl
 
 abbrev after : ℕ → List Lexeme → Answer → Answer
@@ -141,8 +141,8 @@ bad_byte s at b w x = ap (λ o. with_piece at (piece_of (place_of s at) (b ∷ w
 past_limit : (s r : Bytes) (at : ℕ) (l : Lexeme) (x : Leads l r) (e : LexFault) → kind_at (place_of s at) l.form l.text ≡ Err e → lex_from s 0 at r ≡ Err e
 past_limit s r at l x e h = front s r l at x ∙ ap (λ o. with_piece at (with_length (length l.text) o) (λ k. lex_from s 0 (at + length l.text) x.rest)) h
 
-too_big : (p : Place) (f : Form) (w : Bytes) → f ≡ form.Number → LARGEST < number_of w → kind_at p f w ≡ Err (LiteralTooBig p)
-too_big p f w e h = rw (e, lt-ltb LARGEST (number_of w) h) refl
+too_big : (p : Place) (f : Form) (w : Bytes) → f ≡ form.Number → LARGEST < natural_of w → kind_at p f w ≡ Err (LiteralTooBig p)
+too_big p f w e h = rw (e, lt-ltb LARGEST (natural_of w) h) refl
 
 too_long : (p : Place) (f : Form) (w : Bytes) → f ≡ form.Word → NAME_BYTES < length w → kind_at p f w ≡ Err (NameTooLong p)
 too_long p f w e h = rw (e, lt-ltb NAME_BYTES (length w) h) refl

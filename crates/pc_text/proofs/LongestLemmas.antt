@@ -14,7 +14,7 @@ abbrev pub AtLeast : ℕ → Option (Form × ℕ) → Type 0
 AtLeast k None = ⊥
 AtLeast k (Some x) = k ≤ x.1
 
-run_all : (p : ℕ → Bool) (w s : Bytes) → EachPasses p w → length w ≤ run p (w ++ s)
+pub run_all : (p : ℕ → Bool) (w s : Bytes) → EachPasses p w → length w ≤ run p (w ++ s)
 run_all p [] s h = omega arith
 run_all p (b ∷ w) s h = let i = run_all p w s h.1 in rw h.0 (omega arith)
 
@@ -22,7 +22,7 @@ all_by : (p : ℕ → Bool) (b : ℕ) (r : Bytes) (c : Bool) → p b ≡ c → E
 all_by p b r true e h = (e, h)
 all_by p b r false e h = tt
 
-all_run : (p : ℕ → Bool) (r : Bytes) → EachPasses p (take (run p r) r)
+pub all_run : (p : ℕ → Bool) (r : Bytes) → EachPasses p (take (run p r) r)
 all_run p [] = tt
 all_run p (b ∷ r) = all_by p b r (p b) refl (all_run p r)
 
@@ -30,7 +30,7 @@ run_within_by : (p : ℕ → Bool) (r : Bytes) (c : Bool) → run p r ≤ length
 run_within_by p r true h = omega arith
 run_within_by p r false h = omega arith
 
-run_within : (p : ℕ → Bool) (r : Bytes) → run p r ≤ length r
+pub run_within : (p : ℕ → Bool) (r : Bytes) → run p r ≤ length r
 run_within p [] = omega arith
 run_within p (b ∷ r) = run_within_by p r (p b) (run_within p r)
 

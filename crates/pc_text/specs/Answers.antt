@@ -6,7 +6,7 @@ use Rattle.pc_text.specs.declared.token.LexFault.{LexFault}
 use Rattle.pc_text.specs.declared.token.LexFault.TheVariants.{NoMemory, BadByte, LiteralTooBig, NameTooLong}
 use Rattle.pc_text.specs.declared.token.TheConstants.{LARGEST, NAME_BYTES}
 use Rattle.pc_text.specs.Bytes.{Bytes}
-use Rattle.pc_text.specs.Numerals.{number_of}
+use Rattle.pc_text.specs.Digits.{natural_of}
 use Rattle.pc_text.specs.Places.{place_of}
 use Rattle.pc_text.specs.Lexemes.{Lexeme, Leads, LedByNone, IsSplit, AllFit, total, tokens_from}
 
@@ -14,7 +14,7 @@ use Rattle.pc_text.specs.Lexemes.{Lexeme, Leads, LedByNone, IsSplit, AllFit, tot
 abbrev pub FaultAt : Bytes → ℕ → LexFault → Bytes → Type 0
 FaultAt s at NoMemory r = ⊥
 FaultAt s at (BadByte p b) r = (p ≡ place_of s at) × (w : Bytes) × (r ≡ b ∷ w) × LedByNone r
-FaultAt s at (LiteralTooBig p) r = (p ≡ place_of s at) × (l : Lexeme) × Leads l r × (l.form ≡ form.Number) × (LARGEST < number_of l.text)
+FaultAt s at (LiteralTooBig p) r = (p ≡ place_of s at) × (l : Lexeme) × Leads l r × (l.form ≡ form.Number) × (LARGEST < natural_of l.text)
 FaultAt s at (NameTooLong p) r = (p ≡ place_of s at) × (l : Lexeme) × Leads l r × (l.form ≡ form.Word) × (NAME_BYTES < length l.text)
 
 -- the answer for the rest `b` of the text `s` at an offset: the tokens of its lexemes, or the fault behind lexemes within the limits

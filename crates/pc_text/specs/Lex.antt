@@ -10,7 +10,7 @@ use Rattle.pc_text.specs.declared.token.LexFault.TheVariants.{BadByte, LiteralTo
 use Rattle.pc_text.specs.declared.token.TheConstants.{LARGEST, NAME_BYTES}
 use Rattle.pc_text.specs.declared.place.Place.{Place}
 use Rattle.pc_text.specs.Bytes.{Bytes}
-use Rattle.pc_text.specs.Numerals.{number_of}
+use Rattle.pc_text.specs.Digits.{natural_of}
 use Rattle.pc_text.specs.Places.{place_of}
 use Rattle.pc_text.specs.Lexemes.{word_kind, with_token}
 use Rattle.pc_text.specs.Longest.{longest}
@@ -20,7 +20,7 @@ abbrev pub kind_at : Place → Form → Bytes → Result (Option Kind) LexFault
 kind_at p form.Blank w = Ok None
 kind_at p form.Comment w = Ok None
 kind_at p form.Word w = if nat_lt NAME_BYTES (length w) then Err (NameTooLong p) else Ok (Some (word_kind w))
-kind_at p form.Number w = if nat_lt LARGEST (number_of w) then Err (LiteralTooBig p) else Ok (Some (kind.Number (pos (number_of w))))
+kind_at p form.Number w = if nat_lt LARGEST (natural_of w) then Err (LiteralTooBig p) else Ok (Some (kind.Number (pos (natural_of w))))
 kind_at p form.Sign w = Ok (Some kind.Sign)
 
 -- a piece's kind and length

@@ -9,7 +9,7 @@ use Rattle.pc_text.specs.declared.token.Kind.TheVariants as kind
 use Rattle.pc_text.specs.declared.token.Token.{Token}
 use Rattle.pc_text.specs.declared.token.TheConstants.{LARGEST, NAME_BYTES}
 use Rattle.pc_text.specs.Bytes.{Bytes}
-use Rattle.pc_text.specs.Numerals.{number_of}
+use Rattle.pc_text.specs.Digits.{natural_of}
 use Rattle.pc_text.specs.Places.{is_line_feed}
 
 -- ---- bytes
@@ -129,13 +129,13 @@ abbrev pub kind_of : Form → Bytes → Option Kind
 kind_of form.Blank w = None
 kind_of form.Comment w = None
 kind_of form.Word w = Some (word_kind w)
-kind_of form.Number w = Some (kind.Number (pos (number_of w)))
+kind_of form.Number w = Some (kind.Number (pos (natural_of w)))
 kind_of form.Sign w = Some kind.Sign
 
 -- within the limits (no keyword is longer than a name may be)
 abbrev pub Fits : Form → Bytes → Type 0
 Fits form.Word w = length w ≤ NAME_BYTES
-Fits form.Number w = number_of w ≤ LARGEST
+Fits form.Number w = natural_of w ≤ LARGEST
 Fits _ w = Unit {0}
 
 abbrev pub AllFit : List Lexeme → Type 0

@@ -1,8 +1,9 @@
 pub mod Bytes
-pub mod Numerals
+pub mod Digits
 pub mod Places
 pub mod Lexemes
 pub mod Goers
 pub mod Longest
 pub mod Lex
 pub mod Answers
+pub mod Numerals

@@ -1,17 +1,17 @@
 //! The tokens of a text.
 
-ghost use Rattle.std.specs.Prelude.{◌≡◌, ◌≤◌, ◌<◌, ◌^◌, ◌-◌, ◌+◌, List, length, drop, slice_range, IfSome, IfOk, IfErr, OnOk, MatchOption, Result};
+ghost use Rattle.std.specs.Prelude.{◌≡◌, ◌≤◌, ◌<◌, ◌^◌, ◌-◌, ◌+◌, List, length, drop, slice_range, IfSome, IfOk, IfErr, OnOk, Result};
 ghost use Rattle.pc_text.specs.Lexemes as spec;
 ghost use Rattle.pc_text.specs.Lex as lex;
 ghost use Rattle.pc_text.specs.Places.{place_of};
-ghost use Rattle.pc_text.specs.Numerals.{number_of};
 ghost use Rattle.pc_text.specs.Answers.{Gives, MeansUnless, Means};
 ghost use Rattle.pc_text.specs.declared.token.Token.{Token};
 ghost use Rattle.pc_text.specs.declared.token.LexFault.{LexFault};
 
 use crate::lexeme::{Form, longest};
+use crate::number::natural_of;
 use crate::place::place_of;
-use crate::token::{Kind, LARGEST, LexFault, NAME_BYTES, Token};
+use crate::token::{Kind, LexFault, NAME_BYTES, Token};
 use sqlite_items::Items;
 use std::alloc::Global;
 
@@ -27,21 +27,6 @@ fn is_keyword(word: &[u8]) -> bool
         || word == b"try".as_slice()
         || word == b"assert".as_slice()
         || word == b"assume".as_slice()
-}
-
-/// The number that digits stand for, nothing where it is over [`LARGEST`].
-fn number_of(digits: &[u8]) -> Option<u128>
-    ensures { MatchOption result (LARGEST < number_of digits.now) (λ n. (n ≡ number_of digits.now) × (n ≤ LARGEST)) }
-{
-    let mut number: u128 = 0;
-    for byte in digits {
-        let digit = u128::from(byte.saturating_sub(b'0'));
-        if number > (LARGEST - digit) / 10 {
-            return None;
-        }
-        number = 10 * number + digit;
-    }
-    Some(number)
 }
 
 /// What the lexeme from `at` to `to` is as a token, nothing where it is none.
@@ -64,7 +49,7 @@ fn kind_at(src: &[u8], at: usize, form: Form, to: usize) -> Result<Option<Kind>,
                 Kind::Name
             }))
         }
-        Form::Number => match number_of(text) {
+        Form::Number => match natural_of(text) {
             Some(number) => Ok(Some(Kind::Number(number as i128))),
             None => Err(LexFault::LiteralTooBig(place_of(src, at))),
         },

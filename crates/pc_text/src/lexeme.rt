@@ -75,7 +75,7 @@ fn goes_on(goer: Goer, byte: u8) -> bool
 }
 
 /// How many bytes from the front go on.
-fn run(goer: Goer, src: &[u8]) -> usize
+pub fn run(goer: Goer, src: &[u8]) -> usize
     ensures value { result ≡ run (goes_on goer) src.now }
     ensures within { result ≤ length src.now }
 {

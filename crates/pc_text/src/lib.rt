@@ -3,9 +3,13 @@
 
 mod lex;
 mod lexeme;
+mod number;
 mod place;
+mod text;
 mod token;
 
 pub use lex::tokens;
+pub use number::read_number;
 pub use place::{Place, place_from, place_of};
+pub use text::{NoMemory, Text};
 pub use token::{Kind, LARGEST, LexFault, NAME_BYTES, Token};

@@ -2,7 +2,7 @@
 use Rattle.std.proofs.Common.{◌≡◌, ◌≤◌, ◌<◌, ℕ, suc, ◌+◌, ◌*◌, ◌-◌, [], ◌∷◌, length, drop, get_or, subst, sym, arith, drop-cons}
 use Rattle.pc_text.specs.declared.token.TheConstants.{LARGEST}
 use Rattle.pc_text.specs.Bytes.{Bytes}
-use Rattle.pc_text.specs.Numerals.{digits_from}
+use Rattle.pc_text.specs.Digits.{digits_from}
 
 pub grows : (n : ℕ) (w : Bytes) → n ≤ digits_from n w
 grows n [] = omega arith
