@@ -1,12 +1,13 @@
 -- How texts grow as parts, rows and alternatives go to their end.
 use Rattle.std.proofs.Common.{◌≡◌, ◌<◌, ◌≤◌, ◌⊎◌, inl, inr, ℕ, zero, suc, ◌+◌, Bool, true, false, cond, List, [], ◌∷◌, ◌++◌, length, get_or, take, drop, refl, sym, ap, ◌∙◌, arith, append_assoc, ℤ, pos, negsuc}
+use Rattle.std.specs.Prelude.{codes}
 use Rattle.std.specs.List.{flat_map}
 use Rattle.std.proofs.lemmas.Bool.{cases_lt, false≢true}
 use Rattle.std.proofs.lemmas.List.{append-nil, take_more, drop_more, length-take-le}
 use Rattle.std.proofs.lemmas.List.Concat.{flat_map-append}
 use Rattle.pc_text.specs.Bytes.{Bytes}
 use Rattle.pc_rows.specs.Linear.{Linear, is_zero, coefficient}
-use Rattle.pc_cert.specs.Conditions.{Part, term, terms, part_text, sum_text, is_empty, IsWithin}
+use Rattle.pc_cert.specs.Conditions.{Part, term, terms, part_text, sum_text, is_empty, IsWithin, row_text, rows_text}
 
 -- a part more at the end of a sum
 pub sum_text-push : (ps : List Part) (p : Part) → sum_text (ps ++ p ∷ []) ≡ sum_text ps ++ part_text (is_empty ps) p
@@ -106,3 +107,26 @@ named_by n r v within some (inr past) = absurd (false≢true (sym some ∙ ap is
 -- a variable with a term has a name
 pub named : (n : ℕ) (r : Linear) (v : ℕ) → IsWithin n r → is_zero (coefficient r v) ≡ false → v < n
 named n r v within some = named_by n r v within some (cases_lt v n)
+
+-- a row more at the end of some rows
+rows_text-push : (names : List Bytes) (rs : List Linear) (r : Linear) → 0 < length rs → rows_text names (rs ++ r ∷ []) ≡ rows_text names rs ++ (codes " && " ++ row_text names r)
+rows_text-push names [] r some = absurd (omega arith)
+rows_text-push names (q ∷ rs) r some =
+    let later : Linear → Bytes = λ p. codes " && " ++ row_text names p in
+    ap (λ z. row_text names q ++ z) (flat_map-append later rs (r ∷ []) ∙ ap (λ z. flat_map later rs ++ z) (append-nil (later r)))
+    ∙ sym (append_assoc (row_text names q) (flat_map later rs) (later r))
+
+pub rows_text_more : (names : List Bytes) (rs : List Linear) (i : ℕ) (r : Linear) → 0 < i → i < length rs → get_or rs i r ≡ r → rows_text names (take (i + 1) rs) ≡ rows_text names (take i rs) ++ (codes " && " ++ row_text names r)
+rows_text_more names rs i r some within is =
+    let long : 0 < length (take i rs) = omega (arith, length-take-le i rs (omega arith)) in
+    ap (rows_text names) (take_more rs i r within)
+    ∙ rows_text-push names (take i rs) (get_or rs i r) long
+    ∙ ap (λ q. rows_text names (take i rs) ++ (codes " && " ++ row_text names q)) is
+
+-- the text of the rows so far, one row on
+pub rows_step : (names : List Bytes) (rs : List Linear) (i : ℕ) (r : Linear) (text mid new : Bytes) → 0 < i → i < length rs → get_or rs i r ≡ r → text ≡ rows_text names (take i rs) → mid ≡ text ++ codes " && " → new ≡ mid ++ row_text names r → new ≡ rows_text names (take (i + 1) rs)
+rows_step names rs i r text mid new some within is so_far joined appended =
+    appended
+    ∙ ap (λ z. z ++ row_text names r) (joined ∙ ap (λ z. z ++ codes " && ") so_far)
+    ∙ append_assoc (rows_text names (take i rs)) (codes " && ") (row_text names r)
+    ∙ sym (rows_text_more names rs i r some within is)

@@ -6,12 +6,12 @@ use Rattle.std.proofs.lemmas.List.Elements.{All-head, All-tail}
 use Rattle.std.proofs.lemmas.List.{append-nil}
 use Rattle.std.proofs.lemmas.Bool.{eqb-true, cond_both}
 use Rattle.pc_rows.specs.Linear.{Linear, is_zero}
-use Rattle.pc_text.specs.Printed.{decimal, numeral}
+use Rattle.pc_text.specs.Numerals.{numeral}
 use Rattle.pc_text.specs.Bytes.{Bytes}
 use Rattle.pc_cert.specs.Conditions.{Part, is_negative, times_name, term, constant_part, terms, with_constant}
 use Rattle.pc_cert.specs.Law.{IsDigit, IsLetter, IsName, AreNames, IsOver}
 use Rattle.pc_cert.proofs.Splits.{Stops, Begins, same_cut, each-append, each_weaker, begins-append, begins_weaker}
-use Rattle.pc_cert.proofs.Decimals.{decimal_digits, decimal_begins, decimal_injective}
+use Rattle.pc_cert.proofs.Decimals.{decimal, decimal_digits, decimal_begins, decimal_injective}
 use Rattle.pc_cert.proofs.Parts.{IsPartByte, IsPart, AreParts}
 
 -- a name begins with no digit, and holds none of the bytes that end a part

@@ -3,7 +3,7 @@ use Rattle.std.specs.Prelude.{◌≡◌, ◌≤◌, ℕ, ℤ, pos, negsuc, unsig
 use Rattle.std.specs.List.{flat_map, join_by}
 use Rattle.pc_rows.specs.Linear.{Linear, coefficient, is_zero}
 use Rattle.pc_text.specs.Bytes.{Bytes}
-use Rattle.pc_text.specs.Printed.{numeral}
+use Rattle.pc_text.specs.Numerals.{numeral}
 
 -- a part of a sum, with its sign apart
 pub record Part : Type 0 where

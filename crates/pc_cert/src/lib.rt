@@ -1,8 +1,8 @@
 //! Conditions as text.
 #![tactic(auto)]
 
-mod condition;
+mod alternatives;
 mod row;
 
-pub use condition::text_determines_condition;
+pub use alternatives::{condition, push_rows, text_determines_condition};
 pub use row::push_row;
