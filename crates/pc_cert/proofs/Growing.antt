@@ -3,22 +3,13 @@ use Rattle.std.proofs.Common.{◌≡◌, ◌<◌, ◌≤◌, ◌⊎◌, inl, inr
 use Rattle.std.specs.Prelude.{codes}
 use Rattle.std.specs.List.{flat_map}
 use Rattle.std.proofs.lemmas.Bool.{cases_lt, false≢true}
-use Rattle.std.proofs.lemmas.List.{append-nil, take_more, drop_more, length-take-le}
+use Rattle.std.proofs.lemmas.List.{append-nil, take_more, take_all, drop_more, length-take-le}
 use Rattle.std.proofs.lemmas.List.Concat.{flat_map-append}
 use Rattle.pc_text.specs.Bytes.{Bytes}
 use Rattle.pc_rows.specs.Linear.{Linear, is_zero, coefficient}
+use Rattle.pc_rows.specs.declared.row.TheConstants.{VARIABLES}
+use Rattle.pc_cert.proofs.Sums.{sum_text-push, is_empty-push}
 use Rattle.pc_cert.specs.Conditions.{Part, term, terms, part_text, sum_text, is_empty, IsWithin, row_text, rows_text}
-
--- a part more at the end of a sum
-pub sum_text-push : (ps : List Part) (p : Part) → sum_text (ps ++ p ∷ []) ≡ sum_text ps ++ part_text (is_empty ps) p
-sum_text-push [] p = append-nil (part_text true p)
-sum_text-push (q ∷ ps) p =
-    ap (λ z. part_text true q ++ z) (flat_map-append (part_text false) ps (p ∷ []) ∙ ap (λ z. flat_map (part_text false) ps ++ z) (append-nil (part_text false p)))
-    ∙ sym (append_assoc (part_text true q) (flat_map (part_text false) ps) (part_text false p))
-
-pub is_empty-push : (ps : List Part) (p : Part) → is_empty (ps ++ p ∷ []) ≡ false
-is_empty-push [] p = refl
-is_empty-push (q ∷ ps) p = refl
 
 terms_of_none : (n : ℕ) (cs : List ℤ) → terms (drop n []) cs ≡ []
 terms_of_none zero cs = refl
@@ -38,15 +29,16 @@ terms-append (name ∷ names) [] ds = refl
 terms-append (name ∷ names) (c ∷ cs) ds =
     append_by (is_zero c) (term name c) (terms names (cs ++ ds)) (terms names cs) (terms (drop (length cs) names) ds) (terms-append names cs ds)
 
--- the text of the terms of the first v coefficients stands behind the old text
+-- behind the old text stands that of the terms of the first v coefficients
 pub record HoldsTerms (names : List Bytes) (cs : List ℤ) (v : ℕ) (is_first : Bool) (old new : Bytes) : Type 0 where
+  pub wide : 0 < v → length cs ≡ VARIABLES
   pub first : is_first ≡ is_empty (terms names (take v cs))
   pub text : new ≡ old ++ sum_text (terms names (take v cs))
 
 pub terms_start : (names : List Bytes) (cs : List ℤ) (old : Bytes) → HoldsTerms names cs 0 true old old
 terms_start names cs old =
     let none = terms_of_nothing names in
-    record { first = sym (ap is_empty none); text = sym (append-nil old) ∙ ap (λ ps. old ++ sum_text ps) (sym none) }
+    record { wide = λ some. absurd (omega (arith, some)); first = sym (ap is_empty none); text = sym (append-nil old) ∙ ap (λ ps. old ++ sum_text ps) (sym none) }
 
 terms_zero_by : (b : Bool) (name : Bytes) (names : List Bytes) (c : ℤ) → b ≡ true → cond b (terms names []) (term name c ∷ terms names []) ≡ []
 terms_zero_by true name names c e = terms_of_nothing names
@@ -78,18 +70,19 @@ module _ (names : List Bytes) (cs : List ℤ) (v : ℕ) (within : v < length cs)
       ∙ ap (λ ns. terms names (take v cs) ++ terms ns (get_or cs v (pos 0) ∷ [])) (drop_more names v [] named)
       ∙ ap (λ ps. terms names (take v cs) ++ ps) (terms_one_by (is_zero (get_or cs v (pos 0))) (get_or names v []) (drop (v + 1) names) (get_or cs v (pos 0)) e)
 
-module _ (names : List Bytes) (cs : List ℤ) (v : ℕ) (is_first : Bool) (old new : Bytes) (before : HoldsTerms names cs v is_first old new) (within : v < length cs) where
+module _ (names : List Bytes) (cs : List ℤ) (v : ℕ) (is_first : Bool) (old new : Bytes) (before : HoldsTerms names cs v is_first old new) (wide : length cs ≡ VARIABLES) (within : v < VARIABLES) where
   pub terms_skip : is_zero (get_or cs v (pos 0)) ≡ true → HoldsTerms names cs (v + 1) is_first old new
   terms_skip e =
-      let kept = terms_kept names cs v within e in
-      record { first = before.first ∙ ap is_empty (sym kept); text = before.text ∙ ap (λ ps. old ++ sum_text ps) (sym kept) }
+      let kept = terms_kept names cs v (omega (arith, wide)) e in
+      record { wide = λ _. wide; first = before.first ∙ ap is_empty (sym kept); text = before.text ∙ ap (λ ps. old ++ sum_text ps) (sym kept) }
 
   pub terms_add : (newer name : Bytes) → is_zero (get_or cs v (pos 0)) ≡ false → v < length names → get_or names v [] ≡ name → newer ≡ new ++ part_text is_first (term name (get_or cs v (pos 0))) → HoldsTerms names cs (v + 1) false old newer
   terms_add newer name some named is_name appended =
       let c = get_or cs v (pos 0) in
       let ps = terms names (take v cs) in
-      let grow = terms_grow names cs v within some named ∙ ap (λ n. ps ++ term n c ∷ []) is_name in
+      let grow = terms_grow names cs v (omega (arith, wide)) some named ∙ ap (λ n. ps ++ term n c ∷ []) is_name in
       record {
+        wide = λ _. wide;
         first = sym (ap is_empty grow ∙ is_empty-push ps (term name c));
         text =
           appended
@@ -99,6 +92,11 @@ module _ (names : List Bytes) (cs : List ℤ) (v : ℕ) (is_first : Bool) (old n
           ∙ ap (λ z. old ++ z) (sym (sum_text-push ps (term name c)))
           ∙ ap (λ z. old ++ sum_text z) (sym grow);
       }
+
+pub terms_end : (names : List Bytes) (cs : List ℤ) (is_first : Bool) (old new : Bytes) → HoldsTerms names cs VARIABLES is_first old new → (is_first ≡ is_empty (terms names cs)) × (new ≡ old ++ sum_text (terms names cs))
+terms_end names cs is_first old new h =
+    let whole = take_all VARIABLES cs (omega (arith, h.wide (omega arith))) in
+    (h.first ∙ ap (λ z. is_empty (terms names z)) whole, h.text ∙ ap (λ z. old ++ sum_text (terms names z)) whole)
 
 named_by : (n : ℕ) (r : Linear) (v : ℕ) → IsWithin n r → is_zero (coefficient r v) ≡ false → (v < n) ⊎ (n ≤ v) → v < n
 named_by n r v within some (inl named) = named

@@ -6,11 +6,11 @@ use Rattle.std.proofs.lemmas.List.{append_cancel_right, append-nil}
 use Rattle.std.proofs.lemmas.List.Elements.{All-head, All-tail}
 use Rattle.pc_rows.specs.Linear.{Linear}
 use Rattle.pc_text.specs.Bytes.{Bytes}
-use Rattle.pc_cert.specs.Conditions.{sum_text, row_text, rows_text, line_text, condition_text}
+use Rattle.pc_cert.specs.Conditions.{terms, sum_text, row_text, rows_text, line_text, condition_text}
 use Rattle.pc_cert.specs.Law.{AreNames, IsOver, AreOver, TextDeterminesCondition}
 use Rattle.pc_cert.proofs.Splits.{Stops, same_cut, each-append, each_weaker}
 use Rattle.pc_cert.proofs.Parts.{IsSumByte, AreParts, sum_text_bytes, same_sum}
-use Rattle.pc_cert.proofs.Terms.{parts, parts_are_parts, same_parts}
+use Rattle.pc_cert.proofs.Rows.{parts, parts_text, parts_are_parts, same_parts}
 
 sum_of : List Bytes → Linear → Bytes
 sum_of names r = sum_text (parts names r)
@@ -27,11 +27,16 @@ same_sum_of names r q h over_r over_q e =
 space_is_sum_byte : AllByRecursion IsSumByte (32 ∷ [])
 space_is_sum_byte = ((omega arith, λ e. absurd (omega arith)), tt)
 
+row_is : (names : List Bytes) (r : Linear) → row_text names r ≡ sum_of names r ++ codes " >= 0"
+unfolding sum_of
+row_is names r = ap (λ z. z ++ codes " >= 0") (parts_text (terms names r.coefficients) r.constant)
+
 -- the space before `>=` goes on with the sum, and `>` ends it
 row_split : (names : List Bytes) (r : Linear) (x : Bytes) → row_text names r ++ x ≡ (sum_of names r ++ 32 ∷ []) ++ (62 ∷ 61 ∷ 32 ∷ 48 ∷ x)
-unfolding sum_of
 row_split names r x =
-    append_assoc (sum_text (parts names r)) (codes " >= 0") x ∙ sym (append_assoc (sum_text (parts names r)) (32 ∷ []) (62 ∷ 61 ∷ 32 ∷ 48 ∷ x))
+    ap (λ z. z ++ x) (row_is names r)
+    ∙ append_assoc (sum_of names r) (codes " >= 0") x
+    ∙ sym (append_assoc (sum_of names r) (32 ∷ []) (62 ∷ 61 ∷ 32 ∷ 48 ∷ x))
 
 greater_stops : (x : Bytes) → Stops IsSumByte (62 ∷ x)
 greater_stops x = λ h. h.1 refl
@@ -85,11 +90,11 @@ module _ (names : List Bytes) (h : AreNames names) where
   not_false (r ∷ rs) e = no_row names r (codes "false") _ h false_bytes e
 
   row_bytes : (r : Linear) → AllByRecursion (λ b. 32 ≤ b) (row_text names r)
-  unfolding sum_of
   row_bytes r =
-      each-append (λ b. 32 ≤ b) (sum_of names r) (codes " >= 0")
+      rw (row_is names r)
+      (each-append (λ b. 32 ≤ b) (sum_of names r) (codes " >= 0")
       (each_weaker IsSumByte (λ b. 32 ≤ b) (λ b g. g.0) (sum_of names r) (sum_of_bytes names r h))
-      (omega arith, (omega arith, (omega arith, (omega arith, (omega arith, tt)))))
+      (omega arith, (omega arith, (omega arith, (omega arith, (omega arith, tt))))))
 
   later_rows_bytes : (rs : List Linear) → AllByRecursion (λ b. 32 ≤ b) (flat_map (λ r. codes " && " ++ row_text names r) rs)
   later_rows_bytes [] = tt

@@ -1,5 +1,5 @@
 -- The printed texts of a row, of rows together and of a condition, over the names of the variables.
-use Rattle.std.specs.Prelude.{◌≡◌, ◌≤◌, ℕ, ℤ, pos, negsuc, unsigned_abs, Bool, true, false, ◌==◌, if◌then◌else◌, List, [], ◌∷◌, ◌++◌, codes}
+use Rattle.std.specs.Prelude.{◌≡◌, ◌≤◌, ℕ, ℤ, pos, negsuc, unsigned_abs, Bool, true, false, not, ◌&&◌, ◌==◌, if◌then◌else◌, List, [], ◌∷◌, ◌++◌, codes}
 use Rattle.std.specs.List.{flat_map, join_by}
 use Rattle.pc_rows.specs.Linear.{Linear, coefficient, is_zero}
 use Rattle.pc_text.specs.Bytes.{Bytes}
@@ -30,11 +30,6 @@ terms [] cs = []
 terms (name ∷ names) [] = []
 terms (name ∷ names) (c ∷ cs) = if is_zero c then terms names cs else (term name c ∷ terms names cs)
 
--- the constant stands behind the terms where it is not 0 or there is no term
-abbrev pub with_constant : List Part → ℤ → List Part
-with_constant [] c = constant_part c ∷ []
-with_constant (p ∷ ps) c = if is_zero c then (p ∷ ps) else ((p ∷ ps) ++ constant_part c ∷ [])
-
 -- the sign of a part, by whether it is the first one and whether it is negative
 abbrev pub sign : Bool → Bool → Bytes
 sign true true = codes "-"
@@ -54,9 +49,15 @@ abbrev pub is_empty : List Part → Bool
 is_empty [] = true
 is_empty (p ∷ ps) = false
 
--- a row: its terms, its constant, and that their sum is not negative
+-- the constant behind the terms, where it is not 0 or there are none
+abbrev pub constant_text : Bool → ℤ → Bytes
+constant_text is_first c = if is_zero c && not is_first then [] else (part_text is_first (constant_part c))
+
+-- a row: that the sum of its terms and its constant is not negative
 abbrev pub row_text : List Bytes → Linear → Bytes
-row_text names r = sum_text (with_constant (terms names r.coefficients) r.constant) ++ codes " >= 0"
+row_text names r =
+    let ts = terms names r.coefficients in
+    sum_text ts ++ constant_text (is_empty ts) r.constant ++ codes " >= 0"
 
 -- rows that are to hold together
 abbrev pub rows_text : List Bytes → List Linear → Bytes

@@ -1,6 +1,6 @@
-ghost use Rattle.std.specs.Prelude.{◌≡◌, ◌<◌, ◌++◌, [], ◌&&◌, not, if◌then◌else◌, length, codes, slice_index_or, IfOk, OnOk, OnErr};
-ghost use Rattle.pc_rows.specs.Linear.{InRange, is_zero, coefficient};
-ghost use Rattle.pc_cert.specs.Conditions.{sign, part_text, times_name, term, constant_part, terms, with_constant, is_empty, sum_text, row_text, IsWithin};
+ghost use Rattle.std.specs.Prelude.{◌≡◌, ◌<◌, ◌++◌, not, length, codes, IfOk, OnOk, OnErr};
+ghost use Rattle.pc_rows.specs.Linear.{is_zero, coefficient};
+ghost use Rattle.pc_cert.specs.Conditions.{sign, part_text, term, terms, is_empty, sum_text, constant_text, row_text, IsWithin};
 
 use pc_rows::{Row, VARIABLES};
 use pc_text::{Names, NoMemory, Text};
@@ -19,7 +19,8 @@ fn push_sign(text: &mut Text, is_first: bool, is_negative: bool) -> Result<(), N
 
 fn has_term(r: &Row, v: u32) -> bool
     requires { v < VARIABLES }
-    ensures { result ≡ not (is_zero (coefficient r.now v)) }
+    ensures value { result ≡ not (is_zero (coefficient r.now v)) }
+    ensures wide { length r.now.coefficients ≡ VARIABLES }
 {
     r.coefficient(v) != 0
 }
@@ -46,8 +47,7 @@ fn push_term(
 
 /// Appends the terms of the row, and answers whether there are none.
 fn push_terms(text: &mut Text, r: &Row, names: &Names) -> Result<bool, NoMemory>
-    requires wide { length r.now.coefficients ≡ VARIABLES }
-    requires within { IsWithin (length names.now.names) r.now }
+    requires { IsWithin (length names.now.names) r.now }
     ensures { IfOk result (λ none. (none ≡ is_empty (terms names.now.names r.now.coefficients))
         × (text.new ≡ text.old ++ sum_text (terms names.now.names r.now.coefficients))) }
 {
@@ -63,7 +63,7 @@ fn push_terms(text: &mut Text, r: &Row, names: &Names) -> Result<bool, NoMemory>
 
 /// Appends the constant of the row where it is not 0 or is the first part.
 fn push_constant(text: &mut Text, is_first: bool, r: &Row) -> Result<(), NoMemory>
-    ensures { OnOk result (text.new ≡ text.old ++ (if is_zero r.now.constant && not is_first then [] else (part_text is_first (constant_part r.now.constant)))) }
+    ensures { OnOk result (text.new ≡ text.old ++ constant_text is_first r.now.constant) }
 {
     let c = r.constant();
     if c == 0 && !is_first {
@@ -78,7 +78,6 @@ fn text_of(alloc: Global, r: &Row, names: &Names) -> Result<Text, NoMemory>
     requires { IsWithin (length names.now.names) r.now }
     ensures { IfOk result (λ text. text ≡ row_text names.now.names r.now) }
 {
-    let _ = r.constant();
     let mut text = Text::new(alloc);
     let is_first = push_terms(&mut text, r, names)?;
     push_constant(&mut text, is_first, r)?;
