@@ -85,12 +85,12 @@ module _ (names : List Bytes) (cs : List ℤ) (v : ℕ) (is_first : Bool) (old n
         wide = λ _. wide;
         first = sym (ap is_empty grow ∙ is_empty-push ps (term name c));
         text =
-          appended
-          ∙ ap (λ z. z ++ part_text is_first (term name c)) before.text
-          ∙ ap (λ b. (old ++ sum_text ps) ++ part_text b (term name c)) before.first
-          ∙ append_assoc old (sum_text ps) (part_text (is_empty ps) (term name c))
-          ∙ ap (λ z. old ++ z) (sym (sum_text-push ps (term name c)))
-          ∙ ap (λ z. old ++ sum_text z) (sym grow);
+            appended
+            ∙ ap (λ z. z ++ part_text is_first (term name c)) before.text
+            ∙ ap (λ b. (old ++ sum_text ps) ++ part_text b (term name c)) before.first
+            ∙ append_assoc old (sum_text ps) (part_text (is_empty ps) (term name c))
+            ∙ ap (λ z. old ++ z) (sym (sum_text-push ps (term name c)))
+            ∙ ap (λ z. old ++ sum_text z) (sym grow);
       }
 
 pub terms_end : (names : List Bytes) (cs : List ℤ) (is_first : Bool) (old new : Bytes) → HoldsTerms names cs VARIABLES is_first old new → (is_first ≡ is_empty (terms names cs)) × (new ≡ old ++ sum_text (terms names cs))

@@ -161,8 +161,8 @@ same_parts names r q h over_r over_q e =
     let t = constant_behind (terms names r.coefficients) r.constant in
     let u = constant_behind (terms names q.coefficients) q.constant in
     let same = same_terms names r.coefficients q.coefficients t u (all_alone names h.form) h.apart
-        (no_term_behind (terms names r.coefficients) r.constant) (no_term_behind (terms names q.coefficients) q.constant)
-        (over_r.long ∙ sym over_q.long) over_r.within over_q.within e in
+    (no_term_behind (terms names r.coefficients) r.constant) (no_term_behind (terms names q.coefficients) q.constant)
+    (over_r.long ∙ sym over_q.long) over_r.within over_q.within e in
     same_linear r q
     (same_told t u r.constant q.constant (constant_told (terms names r.coefficients) r.constant) (constant_told (terms names q.coefficients) q.constant) same.1)
     same.0

@@ -14,4 +14,3 @@ sum_text-push (q ∷ ps) p =
 pub is_empty-push : (ps : List Part) (p : Part) → is_empty (ps ++ p ∷ []) ≡ false
 is_empty-push [] p = refl
 is_empty-push (q ∷ ps) p = refl
-

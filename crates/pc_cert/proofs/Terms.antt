@@ -59,9 +59,9 @@ term_is_part name c h =
     record {
       bytes = cond_both (eqb n 1) name (decimal n ++ codes "*" ++ name) (AllByRecursion IsPartByte) (λ _. h.bytes) (λ _. product_bytes n name h);
       begins =
-        cond_both (eqb n 1) name (decimal n ++ codes "*" ++ name) (Begins (λ b. 48 ≤ b))
-        (λ _. begins_weaker (λ b. 58 ≤ b) (λ b. 48 ≤ b) (λ b g. omega (arith, g)) name h.begins)
-        (λ _. product_begins (λ b. 48 ≤ b) n name (decimal_begins_high n));
+          cond_both (eqb n 1) name (decimal n ++ codes "*" ++ name) (Begins (λ b. 48 ≤ b))
+          (λ _. begins_weaker (λ b. 58 ≤ b) (λ b. 48 ≤ b) (λ b g. omega (arith, g)) name h.begins)
+          (λ _. product_begins (λ b. 48 ≤ b) n name (decimal_begins_high n));
     }
 
 pub constant_is_part : (c : ℤ) → IsPart (constant_part c)

@@ -37,12 +37,7 @@ fn text_of(alloc: Global, rows: &Rows, names: &Names) -> Result<Text, NoMemory>
 
 /// Appends the texts of the rows joined by ` && `, or `true` where there are none. Without memory the text is as
 /// before.
-pub fn push_rows(
-    alloc: Global,
-    text: &mut Text,
-    rows: &Rows,
-    names: &Names,
-) -> Result<(), NoMemory>
+pub fn push_rows(alloc: Global, text: &mut Text, rows: &Rows, names: &Names) -> Result<(), NoMemory>
     requires { All (IsWithin (length names.now.names)) rows.now }
     ensures ok { OnOk result (text.new ≡ text.old ++ rows_text names.now.names rows.now) }
     ensures err { OnErr result (text.new ≡ text.old) }

@@ -25,13 +25,7 @@ fn has_term(r: &Row, v: u32) -> bool
     r.coefficient(v) != 0
 }
 
-fn push_term(
-    text: &mut Text,
-    is_first: bool,
-    r: &Row,
-    v: u32,
-    name: &[u8],
-) -> Result<(), NoMemory>
+fn push_term(text: &mut Text, is_first: bool, r: &Row, v: u32, name: &[u8]) -> Result<(), NoMemory>
     requires { v < VARIABLES }
     ensures { OnOk result (text.new ≡ text.old ++ part_text is_first (term name.now (coefficient r.now v))) }
 {
