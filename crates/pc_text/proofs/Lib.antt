@@ -8,3 +8,4 @@ pub mod Steps
 pub mod NumeralLengths
 pub mod NumeralTexts
 pub mod NumeralReads
+pub mod NameLemmas

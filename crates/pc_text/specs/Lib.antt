@@ -7,3 +7,4 @@ pub mod Longest
 pub mod Lex
 pub mod Answers
 pub mod Numerals
+pub mod Named

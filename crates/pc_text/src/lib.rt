@@ -3,12 +3,14 @@
 
 mod lex;
 mod lexeme;
+mod names;
 mod number;
 mod place;
 mod text;
 mod token;
 
 pub use lex::tokens;
+pub use names::Names;
 pub use number::read_number;
 pub use place::{Place, place_from, place_of};
 pub use text::{NoMemory, Text};
