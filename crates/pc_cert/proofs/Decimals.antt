@@ -6,8 +6,10 @@ use Rattle.std.specs.Int.Digits.{digits_of, AllBelowBase, number_from_digits}
 use Rattle.std.proofs.lemmas.Int.Digits.{all_below_base_digits_of, number_digits_of, first_digits_of}
 use Rattle.pc_text.specs.Bytes.{Bytes}
 use Rattle.pc_text.specs.Numerals.{numeral, natural_text}
-use Rattle.pc_cert.specs.Law.{IsDigit}
 use Rattle.pc_cert.proofs.Splits.{Begins}
+
+abbrev pub IsDigit : ℕ → Type 0
+IsDigit b = (48 ≤ b) × (b ≤ 57)
 
 -- the numeral of a number from 0 on
 abbrev pub decimal : ℕ → Bytes

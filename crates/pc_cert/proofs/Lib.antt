@@ -1,5 +1,6 @@
 pub mod Splits
 pub mod Decimals
+pub mod Names
 pub mod Sums
 pub mod Parts
 pub mod Terms

@@ -3,11 +3,8 @@ use Rattle.std.proofs.Common.{◌≡◌, ◌≢◌, ℕ, ◌≤◌, Bool, true, 
 use Rattle.std.specs.List.{AllByRecursion, flat_map}
 use Rattle.pc_text.specs.Bytes.{Bytes}
 use Rattle.pc_cert.specs.Conditions.{Part, sign, part_text, sum_text}
+use Rattle.pc_cert.proofs.Names.{IsPartByte}
 use Rattle.pc_cert.proofs.Splits.{Stops, Begins, same_cut, each-append, each_weaker}
-
--- the bytes of parts: digits, letters, `_` and `*`
-abbrev pub IsPartByte : ℕ → Type 0
-IsPartByte b = (42 ≤ b) × (b ≢ 62)
 
 -- the bytes of a sum: those of parts, space, `+` and `-`
 abbrev pub IsSumByte : ℕ → Type 0

@@ -9,12 +9,13 @@ use Rattle.pc_rows.specs.Linear.{Linear, is_zero}
 use Rattle.pc_text.specs.Numerals.{numeral}
 use Rattle.pc_text.specs.Bytes.{Bytes}
 use Rattle.pc_cert.specs.Conditions.{Part, is_negative, times_name, term, constant_part, terms, part_text, sum_text, is_empty, constant_text}
-use Rattle.pc_cert.specs.Law.{IsDigit, IsLetter, IsName, AreNames, IsOver}
+use Rattle.pc_cert.specs.Law.{AreNames, IsOver}
+use Rattle.pc_cert.proofs.Names.{StandsAlone, all_stand_alone, all_differ}
 use Rattle.pc_cert.proofs.Splits.{Stops, Begins, same_cut, each-append, each_weaker, begins-append, begins_weaker}
 use Rattle.pc_cert.proofs.Decimals.{decimal, decimal_digits, decimal_begins, decimal_injective}
 use Rattle.pc_cert.proofs.Sums.{sum_text-push}
-use Rattle.pc_cert.proofs.Terms.{StandsAlone, name_stands_alone, no_times, same_term, same_constant, term_is_part, constant_is_part}
-use Rattle.pc_cert.proofs.Parts.{IsPartByte, IsPart, AreParts}
+use Rattle.pc_cert.proofs.Terms.{no_times, same_term, same_constant, term_is_part, constant_is_part}
+use Rattle.pc_cert.proofs.Parts.{IsPart, AreParts}
 
 -- none of these parts is a term
 abbrev NoTerm : List Part → Type 0
@@ -151,18 +152,13 @@ same_linear : (r q : Linear) → r.constant ≡ q.constant → r.coefficients �
 unfolding row_of
 same_linear r q constant coefficients = ap (λ c. row_of c r.coefficients) constant ∙ ap (row_of q.constant) coefficients
 
-pub all_alone : (names : List Bytes) → All IsName names → AllByRecursion StandsAlone names
-all_alone [] h = tt
-all_alone (name ∷ names) h =
-    (name_stands_alone name (All-head IsName name names h), all_alone names (All-tail IsName name names h))
-
 pub same_parts : (names : List Bytes) (r q : Linear) → AreNames names → IsOver names r → IsOver names q → parts names r ≡ parts names q → r ≡ q
 same_parts names r q h over_r over_q e =
     let t = constant_behind (terms names r.coefficients) r.constant in
     let u = constant_behind (terms names q.coefficients) q.constant in
-    let same = same_terms names r.coefficients q.coefficients t u (all_alone names h.form) h.apart
+    let same = same_terms names r.coefficients q.coefficients t u (all_stand_alone names h.words) (all_differ names h.distinct)
     (no_term_behind (terms names r.coefficients) r.constant) (no_term_behind (terms names q.coefficients) q.constant)
-    (over_r.long ∙ sym over_q.long) over_r.within over_q.within e in
+    (over_r.wide ∙ sym over_q.wide) over_r.within over_q.within e in
     same_linear r q
     (same_told t u r.constant q.constant (constant_told (terms names r.coefficients) r.constant) (constant_told (terms names q.coefficients) q.constant) same.1)
     same.0
@@ -192,7 +188,7 @@ behind_are_parts (p ∷ ps) k = behind_by (is_zero k) k
 pub parts_are_parts : (names : List Bytes) (r : Linear) → AreNames names → AreParts (parts names r)
 parts_are_parts names r h =
     let ps = terms names r.coefficients in
-    parts_append ps (constant_behind ps r.constant) (terms_are_parts names r.coefficients (all_alone names h.form)) (behind_are_parts ps r.constant)
+    parts_append ps (constant_behind ps r.constant) (terms_are_parts names r.coefficients (all_stand_alone names h.words)) (behind_are_parts ps r.constant)
 
 parts_text_by : (b : Bool) (p : Part) (ps : List Part) (k : ℤ) → sum_text (p ∷ ps) ++ cond (b && true) [] (part_text false (constant_part k)) ≡ sum_text ((p ∷ ps) ++ cond b [] (constant_part k ∷ []))
 parts_text_by true p ps k = append-nil (sum_text (p ∷ ps)) ∙ ap sum_text (sym (append-nil (p ∷ ps)))

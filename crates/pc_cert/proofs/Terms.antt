@@ -9,35 +9,10 @@ use Rattle.pc_rows.specs.Linear.{Linear, is_zero}
 use Rattle.pc_text.specs.Numerals.{numeral}
 use Rattle.pc_text.specs.Bytes.{Bytes}
 use Rattle.pc_cert.specs.Conditions.{Part, is_negative, times_name, term, constant_part}
-use Rattle.pc_cert.specs.Law.{IsDigit, IsLetter, IsName, AreNames, IsOver}
+use Rattle.pc_cert.proofs.Names.{IsPartByte, StandsAlone}
 use Rattle.pc_cert.proofs.Splits.{Stops, Begins, same_cut, each-append, each_weaker, begins-append, begins_weaker}
-use Rattle.pc_cert.proofs.Decimals.{decimal, decimal_digits, decimal_begins, decimal_injective}
-use Rattle.pc_cert.proofs.Parts.{IsPartByte, IsPart, AreParts}
-
--- a name begins with no digit, and holds none of the bytes that end a part
-pub record StandsAlone (name : Bytes) : Type 0 where
-  pub begins : Begins (λ b. 58 ≤ b) name
-  pub bytes : AllByRecursion IsPartByte name
-
-letter_byte : (b : ℕ) → IsLetter b → (58 ≤ b) × (b ≢ 62)
-letter_byte b (inl h) = (omega (arith, h.0), λ e. absurd (omega (arith, h.0)))
-letter_byte b (inr (inl h)) = (omega (arith, h.0), λ e. absurd (omega (arith, h.0)))
-letter_byte b (inr (inr h)) = (omega (arith, h), λ e. absurd (omega (arith, h)))
-
-name_byte : (b : ℕ) → IsLetter b ⊎ IsDigit b → IsPartByte b
-name_byte b (inl h) = let g = letter_byte b h in (omega (arith, g.0), g.1)
-name_byte b (inr h) = (omega (arith, h.0), λ e. absurd (omega (arith, h.1)))
-
-name_bytes : (u : Bytes) → All (λ c. IsLetter c ⊎ IsDigit c) u → AllByRecursion IsPartByte u
-name_bytes [] h = tt
-name_bytes (b ∷ u) h =
-    (name_byte b (All-head (λ c. IsLetter c ⊎ IsDigit c) b u h), name_bytes u (All-tail (λ c. IsLetter c ⊎ IsDigit c) b u h))
-
-pub name_stands_alone : (name : Bytes) → IsName name → StandsAlone name
-name_stands_alone [] h = absurd h
-name_stands_alone (b ∷ u) h =
-    let first = letter_byte b h.0 in
-    record { begins = first.0; bytes = ((omega (arith, first.0), first.1), name_bytes u h.1) }
+use Rattle.pc_cert.proofs.Decimals.{IsDigit, decimal, decimal_digits, decimal_begins, decimal_injective}
+use Rattle.pc_cert.proofs.Parts.{IsPart, AreParts}
 
 decimal_bytes : (n : ℕ) → AllByRecursion IsPartByte (decimal n)
 decimal_bytes n = each_weaker IsDigit IsPartByte (λ b h. (omega (arith, h.0), λ e. absurd (omega (arith, h.1)))) (decimal n) (decimal_digits n)
