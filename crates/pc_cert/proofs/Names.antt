@@ -68,8 +68,8 @@ all_stand_alone (name ∷ names) h =
 pub all_differ : (names : List Bytes) → AreDistinct names → AllPairs ◌≢◌ names
 all_differ names distinct = λ i j d before within.
     λ same.
-        let first = distinct i (get_or names i d) (slice_get-get_or names i d (omega (arith, before, within))) in
-        let second = distinct j (get_or names j d) (slice_get-get_or names j d within) in
-        let numbers : Some i ≡ Some j = sym first ∙ ap (number_of names) same ∙ second in
-        let place : i ≡ j = cc in
-        absurd (omega (arith, before))
+    let first = distinct i (get_or names i d) (slice_get-get_or names i d (omega (arith, before, within))) in
+    let second = distinct j (get_or names j d) (slice_get-get_or names j d within) in
+    let numbers : Some i ≡ Some j = sym first ∙ ap (number_of names) same ∙ second in
+    let place : i ≡ j = cc in
+    absurd (omega (arith, before))

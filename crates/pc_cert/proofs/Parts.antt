@@ -1,6 +1,8 @@
 -- The text of a sum determines its parts.
-use Rattle.std.proofs.Common.{◌≡◌, ◌≢◌, ℕ, ◌≤◌, Bool, true, false, List, [], ◌∷◌, ◌++◌, drop, get_or, refl, sym, ap, ◌∙◌, arith, append_assoc}
-use Rattle.std.specs.List.{AllByRecursion, flat_map}
+use Rattle.std.proofs.Common.{◌≡◌, ◌≢◌, ℕ, ◌≤◌, Bool, true, false, not, ◌&&◌, leb, eqb, List, [], ◌∷◌, ◌++◌, drop, get_or, refl, sym, ap, ◌∙◌, arith, append_assoc}
+use Rattle.std.specs.Prelude.{codes}
+use Rattle.std.specs.List.{AllByRecursion, flat_map, list_all}
+use Rattle.std.proofs.lemmas.Bool.{and_parts, leb-true, eqb-false, not-true}
 use Rattle.pc_text.specs.Bytes.{Bytes}
 use Rattle.pc_cert.specs.Conditions.{Part, sign, part_text, sum_text}
 use Rattle.pc_cert.proofs.Names.{IsPartByte}
@@ -21,26 +23,35 @@ AreParts ps = AllByRecursion IsPart ps
 sum_bytes : (p : Part) → IsPart p → AllByRecursion IsSumByte p.size
 sum_bytes p h = each_weaker IsPartByte IsSumByte (λ b g. (omega (arith, g.0), g.1)) p.size h.bytes
 
-first_sign_bytes : (b : Bool) → AllByRecursion IsSumByte (sign true b)
-first_sign_bytes true = ((omega arith, λ e. absurd (omega arith)), tt)
-first_sign_bytes false = tt
+unfoldable pub is_sum_byte : ℕ → Bool
+is_sum_byte b = leb 32 b && not (eqb b 62)
 
-later_sign_bytes : (b : Bool) → AllByRecursion IsSumByte (sign false b)
-later_sign_bytes true =
-    ((omega arith, λ e. absurd (omega arith)), ((omega arith, λ e. absurd (omega arith)), ((omega arith, λ e. absurd (omega arith)), tt)))
-later_sign_bytes false =
-    ((omega arith, λ e. absurd (omega arith)), ((omega arith, λ e. absurd (omega arith)), ((omega arith, λ e. absurd (omega arith)), tt)))
+-- of a written text the bytes are tested
+pub are_sum_bytes : (u : Bytes) → list_all is_sum_byte u ≡ true → AllByRecursion IsSumByte u
+unfolding is_sum_byte
+are_sum_bytes [] e = tt
+are_sum_bytes (b ∷ u) e =
+    let both = and_parts (is_sum_byte b) (list_all is_sum_byte u) e in
+    let tests = and_parts (leb 32 b) (not (eqb b 62)) both.0 in
+    ((leb-true 32 b tests.0, eqb-false b 62 (not-true (eqb b 62) tests.1)), are_sum_bytes u both.1)
+
+sign_bytes : (is_first b : Bool) → AllByRecursion IsSumByte (sign is_first b)
+unfolding is_sum_byte
+sign_bytes true true = are_sum_bytes (codes "-") refl
+sign_bytes true false = tt
+sign_bytes false true = are_sum_bytes (codes " - ") refl
+sign_bytes false false = are_sum_bytes (codes " + ") refl
 
 later_bytes : (ps : List Part) → AreParts ps → AllByRecursion IsSumByte (flat_map (part_text false) ps)
 later_bytes [] h = tt
 later_bytes (p ∷ ps) h =
-    let part = each-append IsSumByte (sign false p.is_negative) p.size (later_sign_bytes p.is_negative) (sum_bytes p h.0) in
+    let part = each-append IsSumByte (sign false p.is_negative) p.size (sign_bytes false p.is_negative) (sum_bytes p h.0) in
     each-append IsSumByte (part_text false p) (flat_map (part_text false) ps) part (later_bytes ps h.1)
 
 pub sum_text_bytes : (ps : List Part) → AreParts ps → AllByRecursion IsSumByte (sum_text ps)
 sum_text_bytes [] h = tt
 sum_text_bytes (p ∷ ps) h =
-    let part = each-append IsSumByte (sign true p.is_negative) p.size (first_sign_bytes p.is_negative) (sum_bytes p h.0) in
+    let part = each-append IsSumByte (sign true p.is_negative) p.size (sign_bytes true p.is_negative) (sum_bytes p h.0) in
     each-append IsSumByte (sign true p.is_negative ++ p.size) (flat_map (part_text false) ps) part (later_bytes ps h.1)
 
 sign_stops : (b : Bool) (x : Bytes) → Stops IsPartByte (sign false b ++ x)
@@ -71,7 +82,9 @@ not_minus : (s x y : Bytes) → Begins (λ b. 48 ≤ b) s → 45 ∷ x ≡ s ++ 
 not_minus [] x y h e = h
 not_minus (b ∷ s) x y h e = let minus : 45 ≡ b = cc in absurd (omega arith)
 
-same_first_sign : (b c : Bool) (s t x y : Bytes) → Begins (λ b. 48 ≤ b) s → Begins (λ b. 48 ≤ b) t → sign true b ++ (s ++ x) ≡ sign true c ++ (t ++ y) → (b ≡ c) × (s ++ x ≡ t ++ y)
+same_first_sign :
+    (b c : Bool) (s t x y : Bytes) → Begins (λ b. 48 ≤ b) s → Begins (λ b. 48 ≤ b) t →
+    sign true b ++ (s ++ x) ≡ sign true c ++ (t ++ y) → (b ≡ c) × (s ++ x ≡ t ++ y)
 same_first_sign true true s t x y at_s at_t e = (refl, cc)
 same_first_sign true false s t x y at_s at_t e = absurd (not_minus t (s ++ x) y at_t e)
 same_first_sign false true s t x y at_s at_t e = absurd (not_minus s (t ++ y) x at_s (sym e))
@@ -84,12 +97,17 @@ same_part : (p q : Part) → p.is_negative ≡ q.is_negative → p.size ≡ q.si
 unfolding part_of
 same_part p q sign size = ap (λ b. part_of b p.size) sign ∙ ap (part_of q.is_negative) size
 
-same_later : (ps qs : List Part) → AreParts ps → AreParts qs → flat_map (part_text false) ps ≡ flat_map (part_text false) qs → ps ≡ qs
+same_later :
+    (ps qs : List Part) → AreParts ps → AreParts qs →
+    flat_map (part_text false) ps ≡ flat_map (part_text false) qs → ps ≡ qs
 same_later [] [] h g e = refl
 same_later [] (q ∷ qs) h g e = absurd (later_some q.is_negative q.size (flat_map (part_text false) qs) e)
 same_later (p ∷ ps) [] h g e = absurd (later_some p.is_negative p.size (flat_map (part_text false) ps) (sym e))
 same_later (p ∷ ps) (q ∷ qs) h g e =
-    let split = rw (append_assoc (sign false p.is_negative) p.size (flat_map (part_text false) ps), append_assoc (sign false q.is_negative) q.size (flat_map (part_text false) qs)) at e in
+    let split =
+    sym (append_assoc (sign false p.is_negative) p.size (flat_map (part_text false) ps))
+    ∙ e
+    ∙ append_assoc (sign false q.is_negative) q.size (flat_map (part_text false) qs) in
     let sign = same_later_sign p.is_negative q.is_negative _ _ split in
     let cut = same_cut IsPartByte p.size q.size _ _ h.0.bytes g.0.bytes (later_stops ps) (later_stops qs) sign.1 in
     let front : p ≡ q = same_part p q sign.0 cut.0 in
@@ -101,7 +119,10 @@ same_sum [] [] h g e = refl
 same_sum [] (q ∷ qs) h g e = absurd (first_some q.is_negative q.size (flat_map (part_text false) qs) g.0.begins e)
 same_sum (p ∷ ps) [] h g e = absurd (first_some p.is_negative p.size (flat_map (part_text false) ps) h.0.begins (sym e))
 same_sum (p ∷ ps) (q ∷ qs) h g e =
-    let split = rw (append_assoc (sign true p.is_negative) p.size (flat_map (part_text false) ps), append_assoc (sign true q.is_negative) q.size (flat_map (part_text false) qs)) at e in
+    let split =
+    sym (append_assoc (sign true p.is_negative) p.size (flat_map (part_text false) ps))
+    ∙ e
+    ∙ append_assoc (sign true q.is_negative) q.size (flat_map (part_text false) qs) in
     let sign = same_first_sign p.is_negative q.is_negative p.size q.size _ _ h.0.begins g.0.begins split in
     let cut = same_cut IsPartByte p.size q.size _ _ h.0.bytes g.0.bytes (later_stops ps) (later_stops qs) sign.1 in
     let front : p ≡ q = same_part p q sign.0 cut.0 in

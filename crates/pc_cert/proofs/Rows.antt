@@ -27,12 +27,17 @@ no_term_constant c = (λ name d h e. no_times (unsigned_abs c) (unsigned_abs d) 
 abbrev Alone : List Bytes → Type 0
 Alone names = AllByRecursion StandsAlone names
 
-no_term_of_by : (b : Bool) (ps t : List Part) (p q : Part) (rest : List Part) → (p ≡ q → ⊥) → (ps ++ t ≡ q ∷ rest → ⊥) → cond b ps (p ∷ ps) ++ t ≡ q ∷ rest → ⊥
+no_term_of_by :
+    (b : Bool) (ps t : List Part) (p q : Part) (rest : List Part) → (p ≡ q → ⊥) → (ps ++ t ≡ q ∷ rest → ⊥) →
+    cond b ps (p ∷ ps) ++ t ≡ q ∷ rest → ⊥
 no_term_of_by true ps t p q rest apart again e = again e
 no_term_of_by false ps t p q rest apart again e = let same : p ≡ q = cc in apart same
 
 -- no term of the later names, and no constant, is a term of this name
-no_term_of : (names : List Bytes) (cs : List ℤ) (t : List Part) (name : Bytes) (d : ℤ) (rest : List Part) → Alone names → StandsAlone name → All (λ other. name ≢ other) names → NoTerm t → terms names cs ++ t ≡ term name d ∷ rest → ⊥
+no_term_of :
+    (names : List Bytes) (cs : List ℤ) (t : List Part) (name : Bytes) (d : ℤ) (rest : List Part) →
+    Alone names → StandsAlone name → All (λ other. name ≢ other) names → NoTerm t →
+    terms names cs ++ t ≡ term name d ∷ rest → ⊥
 no_term_of [] cs [] name d rest alone h apart none e = cc
 no_term_of [] cs (p ∷ t) name d rest alone h apart none e = let same : p ≡ term name d = cc in none.0 name d h same
 no_term_of (u ∷ names) [] [] name d rest alone h apart none e = cc
@@ -90,7 +95,8 @@ module _ (name : Bytes) (names : List Bytes) (h : StandsAlone name) (alone : Alo
       let tail : cs ≡ ds = rest.0 in
       (cc, rest.1)
 
-pairs_first : (name : Bytes) (names : List Bytes) → AllPairs ◌≢◌ (name ∷ names) → All (λ other. name ≢ other) names
+pairs_first :
+    (name : Bytes) (names : List Bytes) → AllPairs ◌≢◌ (name ∷ names) → All (λ other. name ≢ other) names
 pairs_first name names h = λ k d within. h 0 (suc k) d (omega arith) (omega (arith, within))
 
 pairs_later : (name : Bytes) (names : List Bytes) → AllPairs ◌≢◌ (name ∷ names) → AllPairs ◌≢◌ names
@@ -152,7 +158,9 @@ same_linear : (r q : Linear) → r.constant ≡ q.constant → r.coefficients �
 unfolding row_of
 same_linear r q constant coefficients = ap (λ c. row_of c r.coefficients) constant ∙ ap (row_of q.constant) coefficients
 
-pub same_parts : (names : List Bytes) (r q : Linear) → AreNames names → IsOver names r → IsOver names q → parts names r ≡ parts names q → r ≡ q
+pub same_parts :
+    (names : List Bytes) (r q : Linear) → AreNames names → IsOver names r → IsOver names q →
+    parts names r ≡ parts names q → r ≡ q
 same_parts names r q h over_r over_q e =
     let t = constant_behind (terms names r.coefficients) r.constant in
     let u = constant_behind (terms names q.coefficients) q.constant in
@@ -190,15 +198,21 @@ parts_are_parts names r h =
     let ps = terms names r.coefficients in
     parts_append ps (constant_behind ps r.constant) (terms_are_parts names r.coefficients (all_stand_alone names h.words)) (behind_are_parts ps r.constant)
 
-parts_text_by : (b : Bool) (p : Part) (ps : List Part) (k : ℤ) → sum_text (p ∷ ps) ++ cond (b && true) [] (part_text false (constant_part k)) ≡ sum_text ((p ∷ ps) ++ cond b [] (constant_part k ∷ []))
+parts_text_by :
+    (b : Bool) (p : Part) (ps : List Part) (k : ℤ) →
+    sum_text (p ∷ ps) ++ cond (b && true) [] (part_text false (constant_part k)) ≡ sum_text ((p ∷ ps) ++ cond b [] (constant_part k ∷ []))
 parts_text_by true p ps k = append-nil (sum_text (p ∷ ps)) ∙ ap sum_text (sym (append-nil (p ∷ ps)))
 parts_text_by false p ps k = sym (sum_text-push (p ∷ ps) (constant_part k))
 
-constant_alone_by : (b : Bool) (k : ℤ) → cond (b && false) [] (part_text true (constant_part k)) ≡ sum_text (constant_part k ∷ [])
+constant_alone_by :
+    (b : Bool) (k : ℤ) →
+    cond (b && false) [] (part_text true (constant_part k)) ≡ sum_text (constant_part k ∷ [])
 constant_alone_by true k = sym (append-nil (part_text true (constant_part k)))
 constant_alone_by false k = sym (append-nil (part_text true (constant_part k)))
 
 -- the text of the parts is that of the terms, and then that of the constant
-pub parts_text : (ps : List Part) (k : ℤ) → sum_text ps ++ constant_text (is_empty ps) k ≡ sum_text (ps ++ constant_behind ps k)
+pub parts_text :
+    (ps : List Part) (k : ℤ) →
+    sum_text ps ++ constant_text (is_empty ps) k ≡ sum_text (ps ++ constant_behind ps k)
 parts_text [] k = constant_alone_by (is_zero k) k
 parts_text (p ∷ ps) k = parts_text_by (is_zero k) p ps k

@@ -12,7 +12,9 @@ abbrev pub Begins : (ℕ → Type 0) → List ℕ → Type 0
 Begins P [] = ⊥
 Begins P (b ∷ x) = P b
 
-pub same_cut : (P : ℕ → Type 0) (u v x y : List ℕ) → AllByRecursion P u → AllByRecursion P v → Stops P x → Stops P y → u ++ x ≡ v ++ y → (u ≡ v) × (x ≡ y)
+pub same_cut :
+    (P : ℕ → Type 0) (u v x y : List ℕ) → AllByRecursion P u → AllByRecursion P v → Stops P x → Stops P y →
+    u ++ x ≡ v ++ y → (u ≡ v) × (x ≡ y)
 same_cut P [] [] x y in_u in_v at_x at_y e = (refl, e)
 same_cut P [] (c ∷ v) [] y in_u in_v at_x at_y e = absurd (cc)
 same_cut P [] (c ∷ v) (b ∷ x) y in_u in_v at_x at_y e = let same : c ≡ b = cc in absurd (at_x (subst P same in_v.0))
@@ -33,7 +35,8 @@ module _ (P : ℕ → Type 0) where
   begins-append [] v h = absurd h
   begins-append (b ∷ u) v h = h
 
-pub each_weaker : (P Q : ℕ → Type 0) → ((b : ℕ) → P b → Q b) → (u : List ℕ) → AllByRecursion P u → AllByRecursion Q u
+pub each_weaker :
+    (P Q : ℕ → Type 0) → ((b : ℕ) → P b → Q b) → (u : List ℕ) → AllByRecursion P u → AllByRecursion Q u
 each_weaker P Q weaker [] in_u = tt
 each_weaker P Q weaker (b ∷ u) in_u = (weaker b in_u.0, each_weaker P Q weaker u in_u.1)
 

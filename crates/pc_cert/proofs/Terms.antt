@@ -20,12 +20,15 @@ decimal_bytes n = each_weaker IsDigit IsPartByte (λ b h. (omega (arith, h.0), �
 decimal_begins_high : (n : ℕ) → Begins (λ b. 48 ≤ b) (decimal n)
 decimal_begins_high n = begins_weaker IsDigit (λ b. 48 ≤ b) (λ b h. h.0) (decimal n) (decimal_begins n)
 
-product_bytes : (n : ℕ) (name : Bytes) → StandsAlone name → AllByRecursion IsPartByte (decimal n ++ codes "*" ++ name)
+product_bytes :
+    (n : ℕ) (name : Bytes) → StandsAlone name → AllByRecursion IsPartByte (decimal n ++ codes "*" ++ name)
 product_bytes n name h =
     let star : AllByRecursion IsPartByte (codes "*") = ((omega arith, λ e. absurd (omega arith)), tt) in
     each-append IsPartByte (decimal n ++ codes "*") name (each-append IsPartByte (decimal n) (codes "*") (decimal_bytes n) star) h.bytes
 
-product_begins : (P : ℕ → Type 0) (n : ℕ) (name : Bytes) → Begins P (decimal n) → Begins P (decimal n ++ codes "*" ++ name)
+product_begins :
+    (P : ℕ → Type 0) (n : ℕ) (name : Bytes) → Begins P (decimal n) →
+    Begins P (decimal n ++ codes "*" ++ name)
 product_begins P n name h = begins-append P (decimal n ++ codes "*") name (begins-append P (decimal n) (codes "*") h)
 
 pub term_is_part : (name : Bytes) (c : ℤ) → StandsAlone name → IsPart (term name c)
@@ -51,13 +54,16 @@ digit_no_name (b ∷ u) (c ∷ v) at_u at_v e = let same : b ≡ c = cc in absur
 star_stops : (u : Bytes) → Stops IsDigit (codes "*" ++ u)
 star_stops u = λ h. absurd (omega (arith, h.0))
 
-same_product : (m n : ℕ) (u v : Bytes) → decimal m ++ codes "*" ++ u ≡ decimal n ++ codes "*" ++ v → (m ≡ n) × (u ≡ v)
+same_product :
+    (m n : ℕ) (u v : Bytes) → decimal m ++ codes "*" ++ u ≡ decimal n ++ codes "*" ++ v → (m ≡ n) × (u ≡ v)
 same_product m n u v e =
     let split = rw (append_assoc (decimal m) (codes "*") u, append_assoc (decimal n) (codes "*") v) at e in
     let cut = same_cut IsDigit (decimal m) (decimal n) _ _ (decimal_digits m) (decimal_digits n) (star_stops u) (star_stops v) split in
     (decimal_injective m n cut.0, ap (drop 1) cut.1)
 
-same_by : (b c : Bool) (m n : ℕ) (u v : Bytes) → StandsAlone u → StandsAlone v → eqb m 1 ≡ b → eqb n 1 ≡ c → cond b u (decimal m ++ codes "*" ++ u) ≡ cond c v (decimal n ++ codes "*" ++ v) → (m ≡ n) × (u ≡ v)
+same_by :
+    (b c : Bool) (m n : ℕ) (u v : Bytes) → StandsAlone u → StandsAlone v → eqb m 1 ≡ b → eqb n 1 ≡ c →
+    cond b u (decimal m ++ codes "*" ++ u) ≡ cond c v (decimal n ++ codes "*" ++ v) → (m ≡ n) × (u ≡ v)
 same_by true true m n u v h g one_m one_n e = (eqb-true m 1 one_m ∙ sym (eqb-true n 1 one_n), e)
 same_by true false m n u v h g one_m one_n e =
     absurd (digit_no_name _ _ (product_begins IsDigit n v (decimal_begins n)) h.begins (sym e))
@@ -65,10 +71,14 @@ same_by false true m n u v h g one_m one_n e = absurd (digit_no_name _ _ (produc
 same_by false false m n u v h g one_m one_n e = same_product m n u v e
 
 -- a term's text determines its number and its name
-same_times : (m n : ℕ) (u v : Bytes) → StandsAlone u → StandsAlone v → times_name m u ≡ times_name n v → (m ≡ n) × (u ≡ v)
+same_times :
+    (m n : ℕ) (u v : Bytes) → StandsAlone u → StandsAlone v → times_name m u ≡ times_name n v →
+    (m ≡ n) × (u ≡ v)
 same_times m n u v h g e = same_by (eqb m 1) (eqb n 1) m n u v h g refl refl e
 
-no_times_by : (b : Bool) (k n : ℕ) (v : Bytes) → StandsAlone v → decimal k ≡ cond b v (decimal n ++ codes "*" ++ v) → ⊥
+no_times_by :
+    (b : Bool) (k n : ℕ) (v : Bytes) → StandsAlone v → decimal k ≡ cond b v (decimal n ++ codes "*" ++ v) →
+    ⊥
 no_times_by true k n v h e = digit_no_name (decimal k) v (decimal_begins k) h.begins e
 no_times_by false k n v h e =
     let split = append-nil (decimal k) ∙ e ∙ append_assoc (decimal n) (codes "*") v in
@@ -86,7 +96,8 @@ same_number (pos m) (negsuc n) sign size = absurd (cc)
 same_number (negsuc m) (pos n) sign size = absurd (cc)
 same_number (negsuc m) (negsuc n) sign size = let same : m ≡ n = cc in ap negsuc same
 
-pub same_term : (u v : Bytes) (c d : ℤ) → StandsAlone u → StandsAlone v → term u c ≡ term v d → (u ≡ v) × (c ≡ d)
+pub same_term :
+    (u v : Bytes) (c d : ℤ) → StandsAlone u → StandsAlone v → term u c ≡ term v d → (u ≡ v) × (c ≡ d)
 same_term u v c d h g e =
     let size = same_times (unsigned_abs c) (unsigned_abs d) u v h g (ap (λ (p : Part). p.size) e) in
     (size.1, same_number c d (ap (λ (p : Part). p.is_negative) e) size.0)

@@ -1,4 +1,6 @@
-//! Conditions as text.
+//! Rows and conditions as texts for people, over the names of a program.
+//!
+//! For given names the text of a condition determines the condition.
 #![tactic(auto)]
 
 mod alternatives;

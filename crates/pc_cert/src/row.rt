@@ -1,3 +1,5 @@
+//! The text of a row: its terms, its constant, and ` >= 0`.
+
 ghost use Rattle.std.specs.Prelude.{◌≡◌, ◌<◌, ◌++◌, not, length, codes, IfOk, OnOk, OnErr};
 ghost use Rattle.pc_rows.specs.Linear.{is_zero, coefficient};
 ghost use Rattle.pc_cert.specs.Conditions.{sign, part_text, term, terms, is_empty, sum_text, constant_text, row_text, IsWithin};
@@ -6,6 +8,7 @@ use pc_rows::{Row, VARIABLES};
 use pc_text::{Names, NoMemory, Text};
 use std::alloc::Global;
 
+/// Appends the sign of a part, which the first one lacks where it is not negative.
 fn push_sign(text: &mut Text, is_first: bool, is_negative: bool) -> Result<(), NoMemory>
     ensures { OnOk result (text.new ≡ text.old ++ sign is_first is_negative) }
 {
@@ -17,6 +20,7 @@ fn push_sign(text: &mut Text, is_first: bool, is_negative: bool) -> Result<(), N
     }
 }
 
+/// Whether the variable has a term: its coefficient is not 0.
 fn has_term(r: &Row, v: u32) -> bool
     requires { v < VARIABLES }
     ensures value { result ≡ not (is_zero (coefficient r.now v)) }
@@ -25,6 +29,7 @@ fn has_term(r: &Row, v: u32) -> bool
     r.coefficient(v) != 0
 }
 
+/// Appends the term of variable `v`, behind its sign.
 fn push_term(text: &mut Text, is_first: bool, r: &Row, v: u32, name: &[u8]) -> Result<(), NoMemory>
     requires { v < VARIABLES }
     ensures { OnOk result (text.new ≡ text.old ++ part_text is_first (term name.now (coefficient r.now v))) }
@@ -79,13 +84,17 @@ fn text_of(alloc: Global, r: &Row, names: &Names) -> Result<Text, NoMemory>
     Ok(text)
 }
 
-/// Appends the text of a row: its terms in the order of the variables, such as `-x` or `3*y`, then its constant where
-/// it is not 0 or there is no term, then ` >= 0`. Without memory the text is as before.
+/// Appends the text of a row, such as `3*x - y + 5 >= 0`.
+///
+/// The terms stand in the order of the variables: the number and `*` before the name, or the name
+/// alone for 1 and -1; variables with the coefficient 0 have none. The constant follows where it is
+/// not 0 or there is no term. Where memory is wanting, the text stays as it was.
 pub fn push_row(alloc: Global, text: &mut Text, r: &Row, names: &Names) -> Result<(), NoMemory>
     requires { IsWithin (length names.now.names) r.now }
-    ensures ok { OnOk result (text.new ≡ text.old ++ row_text names.now.names r.now) }
-    ensures err { OnErr result (text.new ≡ text.old) }
+    ensures added { OnOk result (text.new ≡ text.old ++ row_text names.now.names r.now) }
+    ensures unchanged { OnErr result (text.new ≡ text.old) }
 {
+    // The row is built apart, so that a push that fails half way leaves `text` alone.
     let row = text_of(alloc, r, names)?;
     text.push_all(row.bytes())
 }

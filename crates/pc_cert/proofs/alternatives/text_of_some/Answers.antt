@@ -13,4 +13,4 @@ loop-i-preserved c =
     (get_or_from_slice_get rows c.loop-i.i r r c.at-in-loop-i.ensures)
     c.loop-i.invariant
     c.in_ok-push_all.ensures.added
-    c.in_ok-push_row-2.ensures.ok
+    c.in_ok-push_row-2.ensures.added

@@ -1,9 +1,7 @@
-use Rattle.std.proofs.Common.{◌≡◌, ◌<◌, ℕ, Bool, true, false, not, List, ◌++◌, length, get_or, sym, ap, ◌∙◌, arith, pos, ℤ}
+use Rattle.std.proofs.Common.{◌<◌, length, get_or, sym, ◌∙◌, pos}
 use Rattle.std.proofs.lemmas.Bool.{not-true, not-false}
 use Rattle.std.proofs.lemmas.Option.{get_or_from_slice_get}
-use Rattle.pc_text.specs.Bytes.{Bytes}
 use Rattle.pc_rows.specs.Linear.{is_zero}
-use Rattle.pc_cert.specs.Conditions.{IsWithin}
 use Rattle.pc_cert.proofs.Growing.{terms_start, terms_skip, terms_add, named as is_named}
 use Rattle.pc_cert.proofs.row.push_terms.Goals as goal
 use Rattle.pc_cert.proofs.row.push_terms.Goals.{then-has_term+in_ok-push_term, else-has_term}
