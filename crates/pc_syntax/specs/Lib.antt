@@ -1,0 +1,9 @@
+pub mod Context
+pub mod Forms
+pub mod Kept
+pub mod Laws
+pub mod Sane
+pub mod Trees
+pub mod Machine
+pub mod Values
+pub mod Spelling
