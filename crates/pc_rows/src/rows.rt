@@ -20,7 +20,7 @@ pub enum RowsFault {
     NoMemory,
 }
 
-/// There is no memory for a copy.
+/// There is no memory for what is to be kept.
 #[derive(Clone, Copy, Debug, PartialEq, Eq)]
 pub struct NoMemory;
 
