@@ -8,3 +8,4 @@ pub mod Statements
 pub mod Programs
 pub mod Loops
 pub mod Turns
+pub mod Counting
