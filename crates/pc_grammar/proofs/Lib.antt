@@ -9,3 +9,8 @@ pub mod Programs
 pub mod Loops
 pub mod Turns
 pub mod Counting
+pub mod Depths
+pub mod Whole
+pub mod Scans
+pub mod Sound
+pub mod Unique

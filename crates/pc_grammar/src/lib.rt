@@ -17,4 +17,6 @@ pub use fault::ParseFault;
 pub use limits::{BRACES, COMPARISONS, SIGNS};
 pub use parsing::parse;
 pub use symbol::{Symbol, Terminal};
-pub use tree::{Bound, Choice, CompareTree, ExprTree, Op, ProgramTree, RightTree, StmtTree, TestTree};
+pub use tree::{
+    Bound, Choice, CompareTree, ExprTree, Op, ProgramTree, RightTree, StmtTree, TestTree,
+};

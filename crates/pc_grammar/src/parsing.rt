@@ -1,6 +1,8 @@
 //! The parse tree of symbols.
 
-ghost use Rattle.std.specs.Prelude.{◌≡◌, Some, None, Option};
+ghost use Rattle.std.specs.Prelude.{◌≡◌, Result};
+ghost use Rattle.pc_grammar.specs.declared.fault.ParseFault.{ParseFault};
+ghost use Rattle.pc_grammar.specs.declared.tree.ProgramTree.{ProgramTree};
 ghost use Rattle.pc_grammar.specs.Parsing as spec;
 
 use crate::cursor::{Cursor, Stop};
@@ -44,12 +46,21 @@ fn read_front(
     }
 }
 
-/// The parse tree of the symbols of a text that ends at `end`.
-pub fn parse(alloc: Global, symbols: &[Symbol], end: Place) -> Result<ProgramTree, ParseFault>
-    ensures computed { spec.Gives result (spec.parsed symbols.now end) }
+fn read(alloc: Global, symbols: &[Symbol], end: Place) -> Result<ProgramTree, ParseFault>
+    ensures { spec.Gives result (spec.parsed symbols.now end) }
 {
     match first_past(symbols) {
         Some(past) => read_front(alloc, &symbols[..past.at + 1], Some(past), end),
         None => read_front(alloc, symbols, None, end),
     }
+}
+
+/// The parse tree of the symbols of a text that ends at `end`. Only the symbols up to and with the
+/// first that is past a limit are read, so nesting is bounded whatever the text.
+pub fn parse(alloc: Global, symbols: &[Symbol], end: Place) -> Result<ProgramTree, ParseFault>
+    ensures meant { spec.MeansUnless result symbols.now end }
+    ensures only { (answer : Result ProgramTree ParseFault) → spec.Means symbols.now end answer → spec.Gives result answer }
+    ensures computed { spec.Gives result (spec.parsed symbols.now end) }
+{
+    read(alloc, symbols, end)
 }
