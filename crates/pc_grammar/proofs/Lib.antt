@@ -8,3 +8,9 @@ pub mod Statements
 pub mod Programs
 pub mod Loops
 pub mod Turns
+pub mod Counting
+pub mod Depths
+pub mod Whole
+pub mod Scans
+pub mod Sound
+pub mod Unique

@@ -81,7 +81,7 @@ module _ (P P' : Lang ExprTree) (p p' : Parser ExprTree) (laws : Laws none P P' 
   enclosed_test_laws : Laws none (is_enclosed (is_test P)) (is_enclosed (is_test P')) (enclosed (test p)) (enclosed (test p'))
   enclosed_test_laws = enclosed_laws after_all refl _ _ _ _ test_laws
 
--- ---- statements
+  -- ---- statements
 
   set_laws : Laws none (is_set_stmt P) (is_set_stmt P') (set_stmt p) (set_stmt p')
   set_laws = map_laws set_of _ _ _ _ _

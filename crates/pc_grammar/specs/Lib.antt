@@ -6,3 +6,5 @@ pub mod Statements
 pub mod Programs
 pub mod Reads
 pub mod Next
+pub mod Limits
+pub mod Parsing

@@ -4,11 +4,19 @@
 mod compare;
 mod cursor;
 mod expr;
+mod fault;
+mod limits;
+mod parsing;
 mod program;
 mod right;
 mod stmt;
 mod symbol;
 mod tree;
 
+pub use fault::ParseFault;
+pub use limits::{BRACES, COMPARISONS, SIGNS};
+pub use parsing::parse;
 pub use symbol::{Symbol, Terminal};
-pub use tree::{Bound, Choice, CompareTree, ExprTree, Op, ProgramTree, RightTree, StmtTree, TestTree};
+pub use tree::{
+    Bound, Choice, CompareTree, ExprTree, Op, ProgramTree, RightTree, StmtTree, TestTree,
+};
