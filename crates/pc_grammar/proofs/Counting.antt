@@ -1,11 +1,11 @@
 -- The first symbol past a limit, counted on from a later one.
-use Rattle.std.proofs.Common.{◌≡◌, ◌+◌, ℕ, zero, suc, List, [], ◌∷◌, ◌++◌, length, Option, Some, None, Result, Ok, Err, refl, sym, ap, ◌∙◌, subst, arith}
+use Rattle.std.proofs.Common.{◌≡◌, ◌+◌, ℕ, ◌∷◌, Option, Some, None, Ok, Err, refl, ap, arith}
 use Rattle.pc_grammar.specs.declared.symbol.Symbol.{Symbol}
 use Rattle.pc_grammar.specs.declared.fault.ParseFault.{ParseFault}
 use Rattle.pc_grammar.specs.declared.limits.Counts.{Counts}
 use Rattle.pc_grammar.specs.declared.limits.Past.{Past}
 use Rattle.pc_grammar.specs.Combinators.{Text}
-use Rattle.pc_grammar.specs.Limits.{counted, first_past, past_or, one_later}
+use Rattle.pc_grammar.specs.Limits.{counted, first_past, one_later}
 
 abbrev pub later : ℕ → Option Past → Option Past
 later n None = None

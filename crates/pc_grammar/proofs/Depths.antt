@@ -1,16 +1,16 @@
 -- Nesting takes symbols: a parser that is given more levels of nesting than a text has symbols never runs out of them.
-use Rattle.std.proofs.Common.{◌≡◌, ℕ, zero, suc, ◌+◌, ◌≤◌, Bool, true, false, cond, List, [], ◌∷◌, length, Option, Some, None, refl, subst, arith}
+use Rattle.std.proofs.Common.{◌≡◌, ℕ, zero, suc, ◌+◌, ◌≤◌, Bool, true, false, cond, List, [], ◌∷◌, length, Some, None, subst, arith}
 use Rattle.pc_grammar.specs.declared.symbol.Symbol.{Symbol}
 use Rattle.pc_grammar.specs.declared.symbol.Terminal.{Terminal}
 use Rattle.pc_grammar.specs.declared.symbol.Terminal.TheVariants as terminal
 use Rattle.pc_grammar.specs.declared.tree.ExprTree.{ExprTree}
 use Rattle.pc_grammar.specs.declared.tree.StmtTree.{StmtTree}
-use Rattle.pc_grammar.specs.Combinators.{Text, Parser, Class, Out, Got, Stops, Fault, Syntax, Deep, starts, token_if, token, and_then, map_out, both, map_parser, either, maybe, many_from, many, Part, More, Last, goes_on, series_from, series, shut, shut_if}
-use Rattle.pc_grammar.specs.Terminals.{among, the, one, one_of}
-use Rattle.pc_grammar.specs.Expressions.{signs, inner, number, name, signed, all_products, all_sums, atom, factor, star_factor, addend, sign_addend, expr_in, paren_in, paren}
-use Rattle.pc_grammar.specs.Rights.{bound_of, choice_of, alone, more, more_or_last, joined, bound, choice, last_or_more, part, right}
-use Rattle.pc_grammar.specs.Statements.{operators, begins_stmt, all_items, separated, optional, after, enclosed, compare_of, any, holds, set_of, if_of, while_of, assert_of, assume_of, compare, all, test, set_stmt, tried, assert_stmt, assume_stmt, if_stmt, while_stmt, stmt, stmts_in, block_in, block, stmts}
-use Rattle.pc_grammar.specs.Programs.{given, var_names, flat, program_of, names, params, var_line, locals, program}
+use Rattle.pc_grammar.specs.Combinators.{Text, Parser, Class, Out, Got, Stops, Syntax, Deep, starts, token_if, token, and_then, map_out, both, map_parser, either, maybe, many_from, many, Part, More, Last, goes_on, series_from, series, shut, shut_if}
+use Rattle.pc_grammar.specs.Terminals.{among, the, one}
+use Rattle.pc_grammar.specs.Expressions.{signs, inner, number, name, signed, all_products, all_sums, atom, factor, addend, expr_in, paren_in, paren}
+use Rattle.pc_grammar.specs.Rights.{bound_of, choice_of, alone, more, more_or_last, joined, bound, choice, part, right}
+use Rattle.pc_grammar.specs.Statements.{operators, begins_stmt, all_items, separated, optional, after, enclosed, compare_of, any, holds, set_of, if_of, while_of, assert_of, assume_of, compare, all, test, set_stmt, assert_stmt, assume_stmt, if_stmt, while_stmt, stmts_in, block_in, block}
+use Rattle.pc_grammar.specs.Programs.{given, var_names, flat, program_of, names, locals, program}
 
 -- a fault of nesting stands behind at least `n` symbols, and nothing is left that was not there
 abbrev BoundedAt : {A : Type 0} → ℕ → Text → Out A → Type 0

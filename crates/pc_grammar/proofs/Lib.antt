@@ -14,3 +14,4 @@ pub mod Whole
 pub mod Scans
 pub mod Sound
 pub mod Unique
+pub mod Spans

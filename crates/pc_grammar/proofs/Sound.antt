@@ -1,22 +1,21 @@
 -- The computed answer is what the symbols mean.
-use Rattle.std.proofs.Common.{◌≡◌, ◌+◌, ◌≤◌, ℕ, suc, List, [], ◌∷◌, ◌++◌, length, take, Option, Some, None, Result, Ok, Err, refl, sym, ap, ◌∙◌, subst, append_assoc, ◌⊎◌, inl, inr, arith, length-append}
+use Rattle.std.proofs.Common.{◌≡◌, ◌+◌, ℕ, [], ◌∷◌, ◌++◌, length, take, Option, Some, None, Ok, Err, refl, sym, ap, ◌∙◌, subst, append_assoc, ◌⊎◌, inl, inr, arith, length-append}
 use Rattle.std.proofs.lemmas.List.{append_cancel_left, take_at}
 use Rattle.pc_text.specs.declared.place.Place.{Place}
 use Rattle.pc_grammar.specs.declared.symbol.Symbol.{Symbol}
 use Rattle.pc_grammar.specs.declared.tree.ProgramTree.{ProgramTree}
 use Rattle.pc_grammar.specs.declared.fault.ParseFault.{ParseFault}
 use Rattle.pc_grammar.specs.declared.fault.ParseFault.TheVariants as fault
-use Rattle.pc_grammar.specs.declared.limits.Counts.{Counts}
 use Rattle.pc_grammar.specs.declared.limits.Past.{Past}
-use Rattle.pc_grammar.specs.Combinators.{Text, Out, Got, Stops, Fault, Syntax, Deep, whole}
+use Rattle.pc_grammar.specs.Combinators.{Text, Out, Got, Stops, Syntax, Deep}
 use Rattle.pc_grammar.specs.Programs.{program, is_program, Derives}
-use Rattle.pc_grammar.specs.Limits.{start, counts, counted, first_past, Within, FirstPast}
-use Rattle.pc_grammar.specs.Parsing.{BeginsProgram, Breaks, place_at, IsSyntax, IsPast, Means, front, read_whole, fault_at, answer, parsed}
-use Rattle.pc_grammar.proofs.Laws.{append-nil, Same}
+use Rattle.pc_grammar.specs.Limits.{start, counts, first_past, Within, FirstPast}
+use Rattle.pc_grammar.specs.Parsing.{BeginsProgram, Breaks, place_at, IsSyntax, IsPast, Means, front, read_whole, answer, parsed}
+use Rattle.pc_grammar.proofs.Laws.{append-nil}
 use Rattle.pc_grammar.proofs.Programs.{program_laws}
 use Rattle.pc_grammar.proofs.Depths.{never_deep}
 use Rattle.pc_grammar.proofs.Whole.{IsRefusal, Says, says}
-use Rattle.pc_grammar.proofs.Scans.{within_front, fault_of, IsPastAt, Scanned, scanned}
+use Rattle.pc_grammar.proofs.Scans.{within_front, fault_of, Scanned, scanned}
 
 abbrev Refusal : Text → Text → Type 0
 Refusal i r = IsRefusal is_program i r

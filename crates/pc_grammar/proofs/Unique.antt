@@ -1,14 +1,13 @@
 -- Symbols have one answer at most.
-use Rattle.std.proofs.Common.{◌≡◌, ◌+◌, ◌≤◌, ◌<◌, ℕ, List, [], ◌∷◌, ◌++◌, length, Result, Ok, Err, refl, sym, ap, ◌∙◌, subst, append_assoc, ◌⊎◌, inl, inr, arith, length-append}
+use Rattle.std.proofs.Common.{◌≡◌, ◌≤◌, [], ◌∷◌, ◌++◌, length, Result, Ok, Err, refl, sym, ap, ◌∙◌, subst, append_assoc, inl, inr, arith, length-append}
 use Rattle.pc_text.specs.declared.place.Place.{Place}
 use Rattle.pc_grammar.specs.declared.symbol.Symbol.{Symbol}
 use Rattle.pc_grammar.specs.declared.tree.ProgramTree.{ProgramTree}
 use Rattle.pc_grammar.specs.declared.fault.ParseFault.{ParseFault}
 use Rattle.pc_grammar.specs.declared.fault.ParseFault.TheVariants as fault
-use Rattle.pc_grammar.specs.declared.limits.Counts.{Counts}
 use Rattle.pc_grammar.specs.Combinators.{Text}
 use Rattle.pc_grammar.specs.Programs.{program, is_program, Derives}
-use Rattle.pc_grammar.specs.Limits.{start, counts, counted, Within, FirstPast}
+use Rattle.pc_grammar.specs.Limits.{start, counts, counted, Within}
 use Rattle.pc_grammar.specs.Parsing.{BeginsProgram, Breaks, place_at, IsSyntax, IsPast, Means, parsed, Gives, MeansUnless}
 use Rattle.pc_grammar.proofs.Laws.{append-nil}
 use Rattle.pc_grammar.proofs.Programs.{program_laws}

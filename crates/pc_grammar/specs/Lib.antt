@@ -8,3 +8,4 @@ pub mod Reads
 pub mod Next
 pub mod Limits
 pub mod Parsing
+pub mod Symbols

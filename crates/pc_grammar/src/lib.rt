@@ -11,12 +11,14 @@ mod program;
 mod right;
 mod stmt;
 mod symbol;
+mod terminals;
 mod tree;
 
 pub use fault::ParseFault;
 pub use limits::{BRACES, COMPARISONS, SIGNS};
 pub use parsing::parse;
 pub use symbol::{Symbol, Terminal};
+pub use terminals::symbols;
 pub use tree::{
     Bound, Choice, CompareTree, ExprTree, Op, ProgramTree, RightTree, StmtTree, TestTree,
 };

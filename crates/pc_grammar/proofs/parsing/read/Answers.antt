@@ -1,4 +1,4 @@
-use Rattle.std.proofs.Common.{◌≡◌, subst, Some, None}
+use Rattle.std.proofs.Common.{subst}
 use Rattle.pc_grammar.specs.Parsing.{Gives, parsed_by}
 use Rattle.pc_grammar.proofs.parsing.read.Goals as goal
 
