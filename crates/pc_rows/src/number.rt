@@ -85,14 +85,6 @@ impl Number {
         }
     }
 
-    /// The number plus the product `a * b`. `Past` exactly where the product or the sum is not in
-    /// range.
-    pub fn plus_product(self, a: Number, b: Number) -> Result<Number, Past>
-        ensures { OkIff result (InRange (a *ℤ b) × InRange (self +ℤ a *ℤ b)) (self +ℤ a *ℤ b) }
-    {
-        self.plus(a.times(b)?)
-    }
-
     /// The opposite.
     pub fn negated(self) -> Number
         ensures value { result ≡ neg_ℤ self }

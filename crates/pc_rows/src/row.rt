@@ -3,12 +3,11 @@
 ghost use Rattle.std.specs.Prelude.{◌≡◌, ◌<◌, ◌*ℤ◌, neg_ℤ, ◌+ℤ◌, OkIff, pos, replicate};
 ghost use Rattle.std.specs.Ordering.{int_eq};
 ghost use Rattle.std.specs.Cmp.Lexicographic.{pointwise};
-ghost use Rattle.pc_rows.specs.Points.{SumsFit};
-ghost use Rattle.pc_rows.specs.Linear.{InRange, dot, IsInRange, IsRow, coefficient, of_constant, with_coefficient, sum_of, difference_of, scaled_by, opposite_of, above_of, first_of, is_number, negation};
+ghost use Rattle.pc_rows.specs.Linear.{InRange, IsInRange, IsRow, coefficient, of_constant, with_coefficient, sum_of, difference_of, scaled_by, opposite_of, above_of, first_of, is_number, negation};
 ghost use Rattle.pc_rows.specs.Joins.{is_always, is_at_most};
 
 use crate::number::{Number, Past};
-use crate::numbers::{are_zero, first, opposites, products, sum_of_products, sums};
+use crate::numbers::{are_zero, first, opposites, products, sums};
 use std::alloc::Global;
 use std::marker::Model;
 
@@ -122,15 +121,6 @@ impl Row {
         })
     }
 
-    /// The row plus `k` times `other`. `Past` exactly where a number of the multiple or of the sum
-    /// is not in range.
-    pub fn plus_times(&self, k: i128, other: &Row) -> Result<Row, Past>
-        requires { InRange k }
-        ensures { OkIff result (IsInRange (scaled_by k other.now) × IsInRange (sum_of self.now (scaled_by k other.now))) (sum_of self.now (scaled_by k other.now)) }
-    {
-        self.sum(&other.scaled(k)?)
-    }
-
     /// The row `-r - 1`, which is met exactly where the row `r` is not. `Past` exactly where one
     /// of its numbers is not in range.
     pub fn negated(&self) -> Result<Row, Past>
@@ -173,19 +163,6 @@ impl Row {
         ensures { result ≡ is_number self.now }
     {
         are_zero(&self.coefficients)
-    }
-
-    /// The constant times `denominator`, plus the sum of the coefficients times the numerators.
-    /// `Past` exactly where a product or a sum from the left is not in range.
-    pub(crate) fn value_over(
-        &self,
-        numerators: &[Number; VARIABLES],
-        denominator: Number,
-    ) -> Result<Number, Past>
-        ensures { OkIff result (InRange (self.now.constant *ℤ denominator) × SumsFit (self.now.constant *ℤ denominator) self.now.coefficients numerators.now) (self.now.constant *ℤ denominator +ℤ dot self.now.coefficients numerators.now) }
-    {
-        let start = self.constant.times(denominator)?;
-        sum_of_products(start, &self.coefficients, numerators)
     }
 
     /// The opposite of each number: since the range is symmetric, all are in range.

@@ -20,7 +20,7 @@ pub enum RowsFault {
     NoMemory,
 }
 
-/// There is no memory for what is to be kept.
+/// There is no memory for a copy.
 #[derive(Clone, Copy, Debug, PartialEq, Eq)]
 pub struct NoMemory;
 
