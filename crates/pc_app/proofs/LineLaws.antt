@@ -1,6 +1,8 @@
 -- States that meet the need of a line violate no assertion, and each other state has a run that does.
 use Rattle.std.proofs.Common.{◌≡◌, ℕ, ◌<◌, ℤ, pos, ◌+ℤ◌, ◌≤ℤ◌, refl, sym, ap, subst, ◌∙◌, arith, List, [], ◌∷◌, ◌++◌, length, set, Bool, true, false, cond, Option, Some, None, ◌⊎◌, inl, inr, length-set}
-use Rattle.std.specs.Prelude.{◌&&◌, is_none, slice_set}
+use Rattle.std.specs.Prelude.{◌&&◌, is_none, slice_set, not, nat_le, nat_lt, replicate}
+use Rattle.std.specs.List.{list_all}
+use Rattle.std.proofs.lemmas.Bool.{ltb-true}
 use Rattle.std.proofs.lemmas.Int.{ints}
 use Rattle.std.proofs.Math.IntN.{+ℤ_idr}
 use Rattle.pc_text.specs.declared.place.Place.{Place}
@@ -10,15 +12,21 @@ use Rattle.pc_rows.specs.Joins.{joined}
 use Rattle.pc_rows.specs.Substitution.{substituted}
 use Rattle.pc_rows.proofs.Joining.{each_join, each_left, each_right, join_is_both}
 use Rattle.pc_rows.proofs.Carrying.{substitution_is_exact}
-use Rattle.pc_syntax.specs.declared.tree.Stmt.{Stmt, Stmt-F, out-Stmt}
+use Rattle.pc_rows.proofs.First.{value_at_entry}
+use Rattle.pc_syntax.specs.declared.tree.Stmt.{Stmt, Stmt-F, out-Stmt, map-Stmt, fold_out-Stmt}
 use Rattle.pc_syntax.specs.declared.tree.Stmt.TheOpen as stmt
 use Rattle.pc_syntax.specs.declared.tree.Compare.{Compare}
 use Rattle.pc_syntax.specs.declared.tree.Expr.{Expr}
 use Rattle.pc_syntax.specs.Values.{State, value_of, all_hold}
 use Rattle.pc_syntax.specs.Machine.{Outcome, Going, Violated, Blocked, Ended, drawn, step_at, step, next, run}
-use Rattle.pc_syntax.specs.Forms.{form, rows_all}
-use Rattle.pc_syntax.proofs.Results.{and_is}
-use Rattle.pc_app.specs.Line.{is_plain, is_line, carried_back, need_over, need, StepMeant, LineMeant, HasViolation}
+use Rattle.pc_syntax.specs.Forms.{form, rows_of, rows_all, is_affine, is_unequal, has_rows, row_fits}
+use Rattle.pc_syntax.specs.Forms as forms
+use Rattle.pc_syntax.specs.Sane.{names_below, sane_expr, sane_compare, sane_each, sane_all, sane_choice, sane_right, sane_step, sane_stmt, sane_stmts}
+use Rattle.pc_syntax.specs.declared.limits.TheConstants.{COMPARISONS}
+use Rattle.pc_syntax.proofs.Results.{and_is, and_of}
+use Rattle.pc_syntax.proofs.FormLemmas.{forms_are_right}
+use Rattle.pc_syntax.proofs.RowLemmas.{conjunctions_are_rows}
+use Rattle.pc_app.specs.Line.{is_plain, is_line, carried_back, need_over, need, entered, StepMeant, LineMeant, HasViolation}
 
 -- a run that has ended stays so
 pub ended_stays : (cs : List ℤ) (q : Place) → run Ended cs ≡ Violated q → ⊥
@@ -120,7 +128,7 @@ need_is_least n (x ∷ k) line meant s e =
 
 -- ---- what the context rules make true of a line
 
-plain_each : (n : ℕ) (cs : List Compare) → list_all (λ c. not (is_unequal c.op) && sane_compare n c) cs ≡ true → list_all has_plain_rows cs ≡ true
+plain_each : (n : ℕ) (cs : List Compare) → list_all (λ c. not (is_unequal c.op) && sane_compare n c) cs ≡ true → list_all forms.is_plain cs ≡ true
 plain_each n [] h = refl
 plain_each n (c ∷ cs) h =
     let now = and_is (not (is_unequal c.op) && sane_compare n c) (list_all (λ c. not (is_unequal c.op) && sane_compare n c) cs) h in
@@ -129,9 +137,9 @@ plain_each n (c ∷ cs) h =
     let right = and_is (sane_expr n c.right) (list_all row_fits (rows_of c)) sides.1 in
     let l = and_is (is_affine c.left) (names_below n c.left) sides.0 in
     let r = and_is (is_affine c.right) (names_below n c.right) right.0 in
-    and_of (has_plain_rows c) (list_all has_plain_rows cs) (and_of (not (is_unequal c.op)) (has_rows c) here.0 (and_of (is_affine c.left) (is_affine c.right) l.0 r.0)) (plain_each n cs now.1)
+    and_of (forms.is_plain c) (list_all forms.is_plain cs) (and_of (not (is_unequal c.op)) (has_rows c) here.0 (and_of (is_affine c.left) (is_affine c.right) l.0 r.0)) (plain_each n cs now.1)
 
-plain_all : (n : ℕ) (cs : List Compare) → sane_all n cs ≡ true → list_all has_plain_rows cs ≡ true
+plain_all : (n : ℕ) (cs : List Compare) → sane_all n cs ≡ true → list_all forms.is_plain cs ≡ true
 plain_all n [] h = refl
 plain_all n (c ∷ cs) h =
     plain_each n (c ∷ cs) (and_is (nat_le (length (c ∷ cs)) COMPARISONS) (list_all (λ c. not (is_unequal c.op) && sane_compare n c) (c ∷ cs)) h).1
@@ -157,8 +165,8 @@ lines_are_meant n (x ∷ k) h =
 
 entered_meets : (n m : ℕ) (rows : List Linear) (s : State) → length s ≡ n → MeetsAll s (entered n rows) → MeetsAll (s ++ replicate m (pos 0)) rows
 entered_meets n m [] s e h = tt
-entered_meets n m (r ∷ rows) s e h = (subst (λ z. pos 0 ≤ℤ z) (value-entry n m r s e) h.0, entered_meets n m rows s e h.1)
+entered_meets n m (r ∷ rows) s e h = (subst (λ z. pos 0 ≤ℤ z) (value_at_entry n m r s e) h.0, entered_meets n m rows s e h.1)
 
 meets_entered : (n m : ℕ) (rows : List Linear) (s : State) → length s ≡ n → MeetsAll (s ++ replicate m (pos 0)) rows → MeetsAll s (entered n rows)
 meets_entered n m [] s e h = tt
-meets_entered n m (r ∷ rows) s e h = (subst (λ z. pos 0 ≤ℤ z) (sym (value-entry n m r s e)) h.0, meets_entered n m rows s e h.1)
+meets_entered n m (r ∷ rows) s e h = (subst (λ z. pos 0 ≤ℤ z) (sym (value_at_entry n m r s e)) h.0, meets_entered n m rows s e h.1)
