@@ -69,7 +69,7 @@ module _ (joins : JoinIsBoth) (exact : SubstitutionIsExact) where
   into_joined s rows m = (joins [] rows s).1 (tt, m)
 
   -- a step of a line from a state that meets its need goes on to a state that meets the rest's
-  Goes : ℕ → List Stmt → Outcome → Type 0
+  abbrev Goes : ℕ → List Stmt → Outcome → Type 0
   Goes n k o = (t : State) × (o ≡ Going k t) × (length t ≡ n) × MeetsAll t (need k)
 
   kept_step : (n : ℕ) (x : Stmt) (y : Stmt-F Stmt) (k : List Stmt) (s : State) (c : ℤ) → length s ≡ n → is_plain y ≡ true → StepMeant n y →
@@ -98,3 +98,37 @@ module _ (joins : JoinIsBoth) (exact : SubstitutionIsExact) where
       let parts = and_is (is_plain (out-Stmt x)) (is_line k) line in
       let g = kept_step n x (out-Stmt x) k s c e parts.0 meant.0 m in
       need_is_enough n k g.0 g.2 parts.1 meant.1 g.3 cs q (subst (λ (o : Outcome). run o cs ≡ Violated q) g.1 v)
+
+  -- a step of a line meets the need of the rest, or what follows is violated, as the statement's own need is met or not
+  least_step : (n : ℕ) (x : Stmt) (y : Stmt-F Stmt) (k : List Stmt) (s : State) → length s ≡ n → is_plain y ≡ true → StepMeant n y →
+      ((t : State) → length t ≡ n → MeetsAll t (need k) ⊎ HasViolation (Going k t)) →
+      MeetsAll s (need_over y (need k)) ⊎ HasViolation (step_at x y k s (pos 0))
+  least_step n x (stmt.Set p v r) k s e plain meant rest =
+      let t = slice_set s v (value_of s r.expr +ℤ drawn r.choice (pos 0)) in
+      let below : v < length s = rw e meant.0 in
+      let same : t ≡ slice_set s v (value (form r.expr) s +ℤ pos 0) = rw (drawn_none r.choice (pos 0) plain, meant.1 s) refl in
+      elim (rest t (length-set s v (value_of s r.expr +ℤ drawn r.choice (pos 0)) ∙ e)) [
+        | inl m ↦ inl (into_joined s _ (carried_up s v (form r.expr) (need k) below (subst (λ (u : State). MeetsAll u (need k)) same m)))
+        | inr v ↦ inr v
+      ]
+  least_step n x (stmt.If p t xs ys) k s e plain meant rest = absurd (cc)
+  least_step n x (stmt.While p t tried xs) k s e plain meant rest = absurd (cc)
+  least_step n x (stmt.Assert p cs) k s e plain meant rest = by (all_hold cs s) refl
+    where
+      by : (b : Bool) → all_hold cs s ≡ b → MeetsAll s (joined [] (rows_all cs ++ need k)) ⊎ HasViolation (cond b (Going k s) (Violated p))
+      by true h = elim (rest s e) [
+        | inl m ↦ inl (into_joined s _ (MeetsAll-append s (rows_all cs) (need k) ((meant s).1 h) m))
+        | inr v ↦ inr v
+      ]
+      by false h = inr ([], p, refl)
+  least_step n x (stmt.Assume p cs) k s e plain meant rest = absurd (cc)
+
+  -- a state that breaks the need has a list of choices that violates an assertion
+  pub need_is_least : (n : ℕ) (k : List Stmt) → is_line k ≡ true → LineMeant n k → (s : State) → length s ≡ n → MeetsAll s (need k) ⊎ HasViolation (Going k s)
+  need_is_least n [] line meant s e = inl tt
+  need_is_least n (x ∷ k) line meant s e =
+      let parts = and_is (is_plain (out-Stmt x)) (is_line k) line in
+      elim (least_step n x (out-Stmt x) k s e parts.0 meant.0 (need_is_least n k parts.1 meant.1)) [
+        | inl m ↦ inl m
+        | inr v ↦ inr (pos 0 ∷ v.0, v.1, v.2)
+      ]

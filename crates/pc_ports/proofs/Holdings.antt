@@ -1,9 +1,9 @@
-use Rattle.std.proofs.Common.{◌≡◌, ℕ, List, [], ◌∷◌, map, refl, sym, ap, ◌∙◌, cond, Bool, true, false, Option, Some, None}
+use Rattle.std.proofs.Common.{◌≡◌, ℕ, List, [], ◌∷◌, map, refl, sym, ap, ◌∙◌, cond, true, false, Some, None}
 use Rattle.std.specs.List.{find}
 use Rattle.std.specs.Option.{option_map_or}
 use Rattle.std.specs.Str.{bytes_eq}
 use Rattle.pc_ports.specs.Memory.{held_under}
-use Rattle.pc_ports.specs.Outside.{Holding, Held, Nothing}
+use Rattle.pc_ports.specs.Outside.{Held, Nothing}
 
 -- files of any form are seen as names and bytes: the first of a name is the same in either form
 held_under-map : {File : Type 0} (files : List File) (seen : File → List ℕ × List ℕ) (name : List ℕ) → held_under (map seen files) name ≡ option_map_or (λ file. Held (seen file).1) (find (λ file. bytes_eq (seen file).0 name) files) Nothing

@@ -1,7 +1,7 @@
 -- The definitions, computed on worked rows.
-use Rattle.std.proofs.Common.{◌≡◌, ℕ, List, [], ◌∷◌, codes, ◌^◌, ◌-◌, refl, Bool, true, false, Option, Some, None, inl, inr, ◌<◌, lit<}
-use Rattle.pc_ports.specs.Memory.{StoreState, SinkState, held_under, is_to_fail, is_put_fault, put_len, after_put, after_fetch, one_more}
-use Rattle.pc_ports.specs.Outside.{Holding, Held, Nothing, Appended, Rose}
+use Rattle.std.proofs.Common.{◌≡◌, ℕ, List, [], ◌∷◌, codes, ◌^◌, ◌-◌, refl, true, false, inl, lit<}
+use Rattle.pc_ports.specs.Memory.{SinkState, held_under, is_to_fail, after_put, one_more}
+use Rattle.pc_ports.specs.Outside.{Held, Nothing, Rose}
 
 files : List (List ℕ × List ℕ)
 files = (codes "f", codes "first") ∷ (codes "g", codes "other") ∷ (codes "f", codes "later") ∷ []

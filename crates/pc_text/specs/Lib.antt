@@ -1,0 +1,9 @@
+pub mod Bytes
+pub mod Digits
+pub mod Places
+pub mod Lexemes
+pub mod Goers
+pub mod Longest
+pub mod Lex
+pub mod Answers
+pub mod Numerals

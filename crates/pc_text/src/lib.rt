@@ -1,8 +1,15 @@
 //! Bytes, places, tokens, numbers and names.
 #![tactic(auto)]
 
+mod lex;
+mod lexeme;
+mod number;
 mod place;
+mod text;
 mod token;
 
-pub use place::Place;
-pub use token::{Kind, LexFault, Token};
+pub use lex::tokens;
+pub use number::read_number;
+pub use place::{Place, place_from, place_of};
+pub use text::{NoMemory, Text};
+pub use token::{Kind, LARGEST, LexFault, NAME_BYTES, Token};

@@ -1,4 +1,4 @@
-use Rattle.std.proofs.Common.{ℕ, List, ◌≤◌, ◌-◌, ◌≡◌, length}
+use Rattle.std.proofs.Common.{◌≤◌, ◌-◌, ◌≡◌, length}
 use Rattle.pc_ports.proofs.host_reads.read_front.Given as goal
 
 abbrev pub invariant-loop-piece : goal.invariant-loop-piece

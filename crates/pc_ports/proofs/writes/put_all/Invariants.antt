@@ -1,4 +1,4 @@
-use Rattle.std.proofs.Common.{length, take, ◌-◌, ◌≡◌, ℕ, List, ◌<◌, ◌≤◌}
+use Rattle.std.proofs.Common.{length, take, ◌-◌, ◌≡◌, ◌≤◌}
 use Rattle.pc_ports.specs.Outside.{Appended}
 use Rattle.pc_ports.proofs.writes.put_all.Given as goal
 

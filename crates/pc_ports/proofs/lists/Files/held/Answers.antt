@@ -1,6 +1,5 @@
-use Rattle.std.proofs.Common.{◌≡◌, sym, ap, ◌∙◌, string_bytes, map}
-use Rattle.pc_ports.specs.Memory.{held_under}
-use Rattle.pc_ports.specs.Outside.{Held, Nothing}
+use Rattle.std.proofs.Common.{sym, ap, ◌∙◌, string_bytes}
+use Rattle.pc_ports.specs.Outside.{Held}
 use Rattle.pc_ports.proofs.Holdings.{held_at_found, held_at_none}
 use Rattle.pc_ports.proofs.lists.Files.held.Goals as goal
 
