@@ -1,1 +1,5 @@
 pub mod LineLaws
+pub mod WordLemmas
+pub mod FileLemmas
+pub mod CommandLemmas
+pub mod TextLemmas

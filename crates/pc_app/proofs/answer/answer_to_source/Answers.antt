@@ -1,0 +1,6 @@
+use Rattle.std.proofs.Common.{refl, arith}
+use Rattle.pc_app.specs.Answers.SourceAnswers.{Faulty}
+use Rattle.pc_app.proofs.answer.answer_to_source.Goals as goal
+
+pub returns-in_ok-refusal_of-in-Err : goal.returns-in_ok-refusal_of-in-Err
+returns-in_ok-refusal_of-in-Err c = Faulty (omega arith) c.in-Err.fault tt refl c.in_ok-refusal_of-in-Err.ensures
