@@ -3,3 +3,5 @@ pub mod WordLemmas
 pub mod FileLemmas
 pub mod CommandLemmas
 pub mod TextLemmas
+pub mod AnswerLemmas
+pub mod EndLemmas

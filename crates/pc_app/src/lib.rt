@@ -10,4 +10,5 @@ mod status;
 mod words;
 
 pub use limits::{ALTERNATIVES, SOURCE_BYTES};
+pub use service::serve;
 pub use status::{DONE, NO_MEMORY, REFUSED, SINK_FAILED, STORE_FAILED, TOO_LONG, USAGE};
