@@ -1,10 +1,14 @@
 -- A file that was fetched is answered as its bytes are.
-use Rattle.std.proofs.Common.{◌≡◌, ℕ, ◌+◌, ◌<◌, ◌≤◌, ◌∙◌, List, length, take, arith, ap, sym, length-take, refl}
+use Rattle.std.proofs.Common.{◌≡◌, ℕ, ◌+◌, ◌<◌, ◌≤◌, ◌∙◌, List, length, take, arith, ap, sym, length-take, refl, Result, Ok, Err, IfOk}
 use Rattle.std.proofs.lemmas.List.{take_all}
 use Rattle.pc_ports.specs.Outside.{Holding, Untold, Nothing, Held, TakenFrom}
+use Rattle.pc_text.specs.declared.text.NoMemory.{NoMemory}
 use Rattle.pc_syntax.specs.Named.{Bytes}
+use Rattle.pc_syntax.specs.declared.program.Program.{Program}
+use Rattle.pc_syntax.specs.Spelling.{Spells}
+use Rattle.pc_app.specs.declared.answer.Answer.{Answer}
 use Rattle.pc_app.specs.declared.limits.TheConstants.{SOURCE_BYTES}
-use Rattle.pc_app.specs.Answers.{SourceAnswers, FileAnswers}
+use Rattle.pc_app.specs.Answers.{SourceAnswers, ProgramAnswers, FileAnswers}
 use Rattle.pc_app.specs.Answers.SourceAnswers.{TooLong, Faulty, Spelled}
 
 -- a front that is short enough is all of the bytes
@@ -30,3 +34,8 @@ pub file_answers : (held : Holding) (taken : Bytes) (status : ℕ) (text : Bytes
 file_answers Untold taken status text from answers = record { bytes = taken; held_bytes = tt; answers = answers }
 file_answers Nothing taken status text from answers = absurd from
 file_answers (Held bytes) taken status text from answers = record { bytes = bytes; held_bytes = refl; answers = front_answers bytes taken status text from answers }
+
+-- a program is answered as the source is that spells it
+pub spelled_answers : (bytes : Bytes) (p : Program) → length bytes ≤ SOURCE_BYTES → Spells bytes p → (r : Result Answer NoMemory) → IfOk r (λ a. ProgramAnswers p a.status a.text) → IfOk r (λ a. SourceAnswers bytes a.status a.text)
+spelled_answers bytes p short spells (Ok a) answers = Spelled short p spells answers
+spelled_answers bytes p short spells (Err e) answers = tt
