@@ -1,6 +1,12 @@
 //! The grammar: from the tokens of a source to its parse tree.
 #![tactic(auto)]
 
+mod compare;
+mod cursor;
+mod expr;
+mod program;
+mod right;
+mod stmt;
 mod symbol;
 mod tree;
 

@@ -13,7 +13,7 @@ use Rattle.pc_rows.specs.declared.rows.RowsFault.TheVariants.{Full, NoMemory}
 use Rattle.pc_rows.specs.Linear.{Linear, State, dot, Meets, MeetsAll, is_zero}
 use Rattle.pc_rows.specs.Bounds.{Within}
 use Rattle.pc_rows.specs.Joins.{IsAlways, IsAtMost, SomeIsAtMost, IsCovered, is_always, is_at_most, is_covered, with_row, joined, AddIs, JoinIs}
-use Rattle.pc_rows.specs.Laws.{CoveringIsMeant, CoveredIsMet, JoinIsBoth, JoinIsWithin}
+use Rattle.pc_rows.specs.Laws.{NumberIsMeant, CoveringIsMeant, CoveredIsMet, JoinIsBoth, JoinIsWithin}
 use Rattle.pc_rows.proofs.Lists.{zero_is, dot-zero}
 use Rattle.pc_rows.proofs.Ranges.{and_is}
 
@@ -60,6 +60,9 @@ zeros_are (c ∷ cs) h = let p = and_is (is_zero c) (list_all is_zero cs) h in (
 are_zeros : (cs : List ℤ) → AllByRecursion (λ c. c ≡ pos 0) cs → list_all is_zero cs ≡ true
 are_zeros [] h = refl
 are_zeros (c ∷ cs) h = and_both (is_zero c) (list_all is_zero cs) (ap is_zero h.0) (are_zeros cs h.1)
+
+pub number_is_meant : NumberIsMeant
+number_is_meant r = (zeros_are r.coefficients, are_zeros r.coefficients)
 
 always_is : (r : Linear) → is_always r ≡ true → IsAlways r
 always_is r h =

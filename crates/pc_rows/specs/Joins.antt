@@ -1,16 +1,16 @@
 -- Lists of rows: when a row is covered by rows, and the join of two lists.
 use Rattle.std.specs.Prelude.{◌≡◌, ◌<◌, ◌≤◌, ◌&&◌, ◌||◌, ◌⊎◌, Bool, pos, ◌≤ℤ◌, int_le, List, [], ◌∷◌, ◌++◌, length, Result, Ok, Err, if◌then◌else◌}
-use Rattle.std.specs.List.{list_all, list_any, AllByRecursion}
+use Rattle.std.specs.List.{list_any, AllByRecursion}
 use Rattle.std.specs.Ordering.{int_eq}
 use Rattle.std.specs.Cmp.Lexicographic.{pointwise}
-use Rattle.pc_rows.specs.Linear.{Linear, IsRow, is_zero}
+use Rattle.pc_rows.specs.Linear.{Linear, IsRow, IsNumber, is_number}
 use Rattle.pc_rows.specs.declared.rows.RowsFault.{RowsFault}
 use Rattle.pc_rows.specs.declared.rows.RowsFault.TheVariants.{Full, NoMemory}
 use Rattle.pc_rows.specs.declared.rows.TheConstants.{ROWS}
 
 -- every state meets it by its form: it has no variable, and its constant is at least 0
 abbrev pub IsAlways : Linear → Type 0
-IsAlways r = AllByRecursion (λ c. c ≡ pos 0) r.coefficients × (pos 0 ≤ℤ r.constant)
+IsAlways r = IsNumber r × (pos 0 ≤ℤ r.constant)
 
 -- the same coefficients, and a constant that is not greater
 abbrev pub IsAtMost : Linear → Linear → Type 0
@@ -26,7 +26,7 @@ IsCovered r rows = IsAlways r ⊎ SomeIsAtMost rows r
 
 -- the same as tests
 abbrev pub is_always : Linear → Bool
-is_always r = list_all is_zero r.coefficients && int_le (pos 0) r.constant
+is_always r = is_number r && int_le (pos 0) r.constant
 
 abbrev pub is_at_most : Linear → Linear → Bool
 is_at_most a r = pointwise int_eq a.coefficients r.coefficients && int_le a.constant r.constant

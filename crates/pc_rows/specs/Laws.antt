@@ -1,6 +1,6 @@
 -- What all that stands on rows cites of them.
-use Rattle.std.specs.Prelude.{◌≡◌, ◌↔◌, ℕ, ◌+◌, ◌*◌, ◌^◌, ◌<◌, true, ℤ, pos, ◌+ℤ◌, ◌-ℤ◌, ◌*ℤ◌, neg_ℤ, ◌≤ℤ◌, List, length, slice_index_or}
-use Rattle.pc_rows.specs.Linear.{Linear, State, value, Meets, MeetsAll, sum_of, difference_of, scaled_by, negation, coefficient, of_constant, with_coefficient, is_in_range, IsInRange}
+use Rattle.std.specs.Prelude.{◌≡◌, ◌↔◌, ℕ, ◌+◌, ◌*◌, ◌^◌, ◌<◌, true, ℤ, pos, ◌+ℤ◌, ◌-ℤ◌, ◌*ℤ◌, neg_ℤ, ◌≤ℤ◌, ◌<ℤ◌, List, ◌++◌, length, replicate, slice_index_or}
+use Rattle.pc_rows.specs.Linear.{Linear, State, value, Meets, MeetsAll, sum_of, difference_of, scaled_by, negation, above_of, zero_from, first_of, is_number, IsNumber, coefficient, of_constant, with_coefficient, is_in_range, IsInRange}
 use Rattle.pc_rows.specs.Bounds.{IsWithin, Within, AllWithin}
 use Rattle.pc_rows.specs.Substitution.{substituted, SubstituteFits, AllSuccessorsMeet}
 use Rattle.pc_rows.specs.Joins.{joined, is_covered, IsCovered}
@@ -34,6 +34,30 @@ ValueOfMultiple = (k : ℤ) (r : Linear) (s : State) → value (scaled_by k r) s
 abbrev pub ValueOfNegation : Type 0
 ValueOfNegation = (r : Linear) (s : State) → value (negation r) s ≡ neg_ℤ (value r s) -ℤ pos 1
 
+-- a - b - 1
+abbrev pub ValueOfAbove : Type 0
+ValueOfAbove = (a b : Linear) (s : State) → value (above_of a b) s ≡ value a s -ℤ value b s -ℤ pos 1
+
+-- it is met exactly where a is above b
+abbrev pub AboveIsExact : Type 0
+AboveIsExact = (a b : Linear) (s : State) → Meets s (above_of a b) ↔ (value b s <ℤ value a s)
+
+-- a row without its variables from n on has the value that the row has where these variables are 0
+abbrev pub ValueOfFirst : Type 0
+ValueOfFirst = (n : ℕ) (r : Linear) (s : State) → value (first_of n r) s ≡ value r (zero_from n s)
+
+-- n values with zeros behind them have 0 at every place from n on
+abbrev pub ZeroFromEntry : Type 0
+ZeroFromEntry = (n m : ℕ) (s : State) → length s ≡ n → zero_from n (s ++ replicate m (pos 0)) ≡ s ++ replicate m (pos 0)
+
+-- of n values, a row without its variables from n on has the value that the row has of the values with zeros behind them
+abbrev pub ValueAtEntry : Type 0
+ValueAtEntry = (n m : ℕ) (r : Linear) (s : State) → length s ≡ n → value (first_of n r) s ≡ value r (s ++ replicate m (pos 0))
+
+-- a row without variables has its constant as its value at every state
+abbrev pub ValueOfNumber : Type 0
+ValueOfNumber = (r : Linear) (s : State) → is_number r ≡ true → value r s ≡ r.constant
+
 -- the negation is met exactly where the row is not
 abbrev pub NegationIsExact : Type 0
 NegationIsExact = (r : Linear) (s : State) → Meets s (negation r) ↔ (Meets s r → ⊥)
@@ -46,6 +70,10 @@ SubstitutionIsExact = (r form : Linear) (x : ℕ) (lo hi : ℤ) (s : State) → 
 -- the test for covered rows says what is meant
 abbrev pub CoveringIsMeant : Type 0
 CoveringIsMeant = (r : Linear) (rows : List Linear) → (is_covered r rows ≡ true) ↔ IsCovered r rows
+
+-- the test for rows without variables says what is meant
+abbrev pub NumberIsMeant : Type 0
+NumberIsMeant = (r : Linear) → (is_number r ≡ true) ↔ IsNumber r
 
 -- a covered row is met where the rows are
 abbrev pub CoveredIsMet : Type 0

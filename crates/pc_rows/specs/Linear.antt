@@ -1,5 +1,5 @@
 -- Linear rows over the variables, with unbounded integers: what they say of a state, and their sums and multiples.
-use Rattle.std.specs.Prelude.{◌≡◌, ◌==◌, ◌&&◌, ℕ, ◌<◌, ◌^◌, nat_lt, Bool, false, ℤ, pos, negsuc, ◌+ℤ◌, ◌-ℤ◌, ◌*ℤ◌, neg_ℤ, ◌≤ℤ◌, unsigned_abs, List, [], ◌∷◌, length, replicate, slice_set, slice_index_or, Result, Ok, Err, if◌then◌else◌, ◌⊎◌}
+use Rattle.std.specs.Prelude.{◌≡◌, ◌==◌, ◌&&◌, ℕ, zero, suc, ◌<◌, ◌^◌, nat_lt, Bool, false, ℤ, pos, negsuc, ◌+ℤ◌, ◌-ℤ◌, ◌*ℤ◌, neg_ℤ, ◌≤ℤ◌, unsigned_abs, List, [], ◌∷◌, length, replicate, slice_set, slice_index_or, Result, Ok, Err, if◌then◌else◌, ◌⊎◌}
 use Rattle.std.specs.List.{AllByRecursion, list_all}
 use Rattle.pc_rows.specs.declared.row.TheConstants.{VARIABLES}
 
@@ -93,6 +93,28 @@ opposite_of r = record { constant = neg_ℤ r.constant; coefficients = negate_li
 -- a - b
 abbrev pub difference_of : Linear → Linear → Linear
 difference_of a b = sum_of a (opposite_of b)
+
+-- a - b - 1, which is met exactly where a is above b
+abbrev pub above_of : Linear → Linear → Linear
+above_of a b = record { constant = a.constant -ℤ b.constant -ℤ pos 1; coefficients = add_lists a.coefficients (negate_list b.coefficients) }
+
+-- the numbers with 0 at every place from n on
+abbrev pub zero_from : ℕ → List ℤ → List ℤ
+zero_from n [] = []
+zero_from zero (a ∷ as') = pos 0 ∷ zero_from zero as'
+zero_from (suc n) (a ∷ as') = a ∷ zero_from n as'
+
+-- the row with 0 as its coefficient at every variable from number n on
+abbrev pub first_of : ℕ → Linear → Linear
+first_of n r = record { constant = r.constant; coefficients = zero_from n r.coefficients }
+
+-- a row without variables: no coefficient is other than 0
+abbrev pub IsNumber : Linear → Type 0
+IsNumber r = AllByRecursion (λ c. c ≡ pos 0) r.coefficients
+
+-- the same as a test
+abbrev pub is_number : Linear → Bool
+is_number r = list_all is_zero r.coefficients
 
 -- -r - 1, the row that is met exactly where r is not
 abbrev pub negation : Linear → Linear

@@ -1,7 +1,7 @@
 //! What all that stands on rows cites of them. Each law is the contract of a function that does
 //! nothing.
 
-ghost use Rattle.pc_rows.specs.Laws.{ValueOfConstant, ValueOfCoefficient, ValueAtZero, ValueOfSum, ValueOfDifference, ValueOfMultiple, ValueOfNegation, NegationIsExact, SubstitutionIsExact, CoveringIsMeant, CoveredIsMet, JoinIsBoth, JoinIsWithin, SmallSubstitutionFits, RangeIsMeant, ShownIsMet};
+ghost use Rattle.pc_rows.specs.Laws.{ValueOfConstant, ValueOfCoefficient, ValueAtZero, ValueOfSum, ValueOfDifference, ValueOfMultiple, ValueOfNegation, NegationIsExact, ValueOfAbove, AboveIsExact, ValueOfFirst, ZeroFromEntry, ValueAtEntry, ValueOfNumber, NumberIsMeant, SubstitutionIsExact, CoveringIsMeant, CoveredIsMet, JoinIsBoth, JoinIsWithin, SmallSubstitutionFits, RangeIsMeant, ShownIsMet};
 
 /// The values of rows at a state.
 pub fn row_values()
@@ -12,11 +12,25 @@ pub fn row_values()
     ensures difference { ValueOfDifference }
     ensures multiple { ValueOfMultiple }
     ensures negation { ValueOfNegation }
+    ensures above { ValueOfAbove }
+    ensures number { ValueOfNumber }
 {}
 
 /// The negation of a row is met exactly where the row is not.
 pub fn negation_is_exact()
     ensures { NegationIsExact }
+{}
+
+/// The row `a - b - 1` is met exactly where `a` is above `b`.
+pub fn above_is_exact()
+    ensures { AboveIsExact }
+{}
+
+/// What is left of a row where the variables from some number on are 0.
+pub fn first_variables()
+    ensures value { ValueOfFirst }
+    ensures entry { ZeroFromEntry }
+    ensures at_entry { ValueAtEntry }
 {}
 
 /// The states that meet a row carried back are those all of whose successors meet the row.
@@ -49,4 +63,5 @@ pub fn shown_is_met()
 pub fn tests_are_meant()
     ensures covered { CoveringIsMeant }
     ensures range { RangeIsMeant }
+    ensures number { NumberIsMeant }
 {}

@@ -64,6 +64,17 @@ impl Number {
         }
     }
 
+    /// The number `self - other - 1`, which is at least 0 exactly where `self` is above `other`.
+    /// The difference alone may be out of range where this number is not.
+    pub fn above(self, other: Number) -> Result<Number, Past>
+        ensures { OkIff result (InRange (self -ℤ other -ℤ pos 1)) (self -ℤ other -ℤ pos 1) }
+    {
+        match (self.n - 1).checked_sub(other.n) {
+            Some(n) if n != i128::MIN => Ok(Number { n }),
+            _ => Err(Past),
+        }
+    }
+
     /// The product.
     pub fn times(self, other: Number) -> Result<Number, Past>
         ensures { OkIff result (InRange (self *ℤ other)) (self *ℤ other) }

@@ -2,7 +2,7 @@
 
 ghost use Rattle.std.specs.Prelude.{◌≡◌, OkIff};
 ghost use Rattle.std.specs.List.{list_all};
-ghost use Rattle.pc_rows.specs.Linear.{AllInRange, add_lists, scale_list, negate_list, is_zero};
+ghost use Rattle.pc_rows.specs.Linear.{AllInRange, add_lists, scale_list, negate_list, zero_from, is_zero};
 
 use crate::number::{Number, Past};
 
@@ -33,6 +33,17 @@ pub fn opposites<const N: usize>(a: &[Number; N]) -> [Number; N]
     let mut all = *a;
     for v in 0..N {
         all[v] = a[v].negated();
+    }
+    all
+}
+
+/// The numbers with 0 at every place from `count` on.
+pub fn first<const N: usize>(a: &[Number; N], count: usize) -> [Number; N]
+    ensures { result ≡ zero_from count a.now }
+{
+    let mut all = *a;
+    for v in count..N {
+        all[v] = Number::new(0);
     }
     all
 }

@@ -3,11 +3,11 @@
 ghost use Rattle.std.specs.Prelude.{◌≡◌, ◌<◌, ◌*ℤ◌, neg_ℤ, ◌+ℤ◌, OkIff, pos, replicate};
 ghost use Rattle.std.specs.Ordering.{int_eq};
 ghost use Rattle.std.specs.Cmp.Lexicographic.{pointwise};
-ghost use Rattle.pc_rows.specs.Linear.{InRange, IsInRange, IsRow, coefficient, of_constant, with_coefficient, sum_of, difference_of, scaled_by, opposite_of, negation};
+ghost use Rattle.pc_rows.specs.Linear.{InRange, IsInRange, IsRow, coefficient, of_constant, with_coefficient, sum_of, difference_of, scaled_by, opposite_of, above_of, first_of, is_number, negation};
 ghost use Rattle.pc_rows.specs.Joins.{is_always, is_at_most};
 
 use crate::number::{Number, Past};
-use crate::numbers::{are_zero, opposites, products, sums};
+use crate::numbers::{are_zero, first, opposites, products, sums};
 use std::alloc::Global;
 use std::marker::Model;
 
@@ -133,6 +133,38 @@ impl Row {
         })
     }
 
+    /// The row `self - other - 1`, which is met exactly where `self` is above `other`. `Past`
+    /// exactly where one of its numbers is not in range; the difference alone may be out of range
+    /// where this row is not.
+    pub fn above(&self, other: &Row) -> Result<Row, Past>
+        ensures { OkIff result (IsInRange (above_of self.now other.now)) (above_of self.now other.now) }
+    {
+        let constant = self.constant.above(other.constant)?;
+        let coefficients = sums(&self.coefficients, &opposites(&other.coefficients))?;
+        Ok(Row {
+            constant,
+            coefficients,
+        })
+    }
+
+    /// The row with 0 as its coefficient at every variable from number `count` on: what is left of
+    /// the row where those variables are 0.
+    pub fn first(&self, count: u32) -> Row
+        ensures { result ≡ first_of count self.now }
+    {
+        Row {
+            constant: self.constant,
+            coefficients: first(&self.coefficients, count as usize),
+        }
+    }
+
+    /// Whether the row has no variable: each coefficient is 0.
+    pub fn is_number(&self) -> bool
+        ensures { result ≡ is_number self.now }
+    {
+        are_zero(&self.coefficients)
+    }
+
     /// The opposite of each number: since the range is symmetric, all are in range.
     fn opposite(&self) -> Row
         ensures { result ≡ opposite_of self.now }
@@ -148,7 +180,7 @@ impl Row {
     pub fn is_always(&self) -> bool
         ensures { result ≡ is_always self.now }
     {
-        are_zero(&self.coefficients) && self.constant.is_at_least_zero()
+        self.is_number() && self.constant.is_at_least_zero()
     }
 
     /// Whether the row has the coefficients of `other`, and a constant that is not greater.

@@ -2,16 +2,20 @@
 #![tactic(auto)]
 
 mod fault;
-mod names;
+mod laws;
+mod limits;
 mod normal;
 mod program;
 mod reading;
 mod tree;
+mod walk;
 
 pub use fault::SourceFault;
-pub use names::Names;
-pub use normal::AffineFault;
+pub use laws::{forms_are_right, rows_are_right, walks_are_sane};
+pub use limits::{COMPARISONS, EDGES};
+pub use normal::{AffineFault, affine};
 pub use pc_grammar::{Bound, Choice, Op};
+pub use pc_text::Names;
 pub use program::Program;
-pub use reading::{EDGES, read};
+pub use reading::read;
 pub use tree::{Compare, Compares, Expr, Right, Stmt, Stmts, Test};

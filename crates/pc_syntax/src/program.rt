@@ -1,11 +1,14 @@
-use crate::names::Names;
-use crate::tree::Stmts;
-use pc_text::Place;
+ghost use Rattle.std.specs.Prelude.{◌≡◌, true};
+ghost use Rattle.pc_syntax.specs.Sane.{is_sane};
 
-/// A program. Its place is that of `entry`.
+use crate::tree::Stmts;
+use pc_text::{Names, Place};
+
+/// A program, which keeps the context rules. Its place is that of `entry`.
 #[derive(Drop)]
 pub struct Program {
     pub place: Place,
     pub names: Names,
     pub body: Stmts,
+    pub ghost sane: { is_sane names body ≡ true },
 }

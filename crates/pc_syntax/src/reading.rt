@@ -5,9 +5,6 @@ use crate::fault::SourceFault;
 use crate::program::Program;
 use std::alloc::Global;
 
-/// The greatest number of edges of a program, of which the first leads into it.
-pub const EDGES: u32 = 1024;
-
 /// The program that the bytes of a text spell. There are fewer than 2^32 - 1 of them, so that lines and columns fit.
 pub fn read(alloc: Global, src: &[u8]) -> Result<Program, SourceFault>
     requires { length src.now < 2 ^ 32 - 1 }

@@ -8,3 +8,6 @@ pub mod Steps
 pub mod NumeralLengths
 pub mod NumeralTexts
 pub mod NumeralReads
+pub mod NameLemmas
+pub mod LineLemmas
+mod Examples

@@ -7,3 +7,5 @@ pub mod Longest
 pub mod Lex
 pub mod Answers
 pub mod Numerals
+pub mod Named
+pub mod Lines

@@ -3,12 +3,18 @@
 
 mod lex;
 mod lexeme;
+mod lines;
+mod names;
 mod number;
 mod place;
+#[cfg(test)]
+mod tests;
 mod text;
 mod token;
 
 pub use lex::tokens;
+pub use lines::Lines;
+pub use names::Names;
 pub use number::read_number;
 pub use place::{Place, place_from, place_of};
 pub use text::{NoMemory, Text};

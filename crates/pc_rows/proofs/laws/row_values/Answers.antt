@@ -10,4 +10,6 @@ returns c = record {
   difference = values.value-difference;
   multiple = values.value-scaled;
   negation = values.value-negation;
+  above = values.value-above;
+  number = values.value-number;
 }

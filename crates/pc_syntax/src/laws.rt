@@ -1,0 +1,22 @@
+//! What all that stands on programs cites of them. Each law is the contract of a function that
+//! does nothing.
+
+ghost use Rattle.pc_syntax.specs.Laws.{FormsAreRight, ComparisonsAreRows, ConjunctionsAreRows, UnequalsAreRows};
+ghost use Rattle.pc_syntax.specs.Kept.{WalksAreSane};
+
+/// A normal form has the value of its expression at every state, and is in range.
+pub fn forms_are_right()
+    ensures { FormsAreRight }
+{}
+
+/// Rows say where comparisons and conjunctions hold.
+pub fn rows_are_right()
+    ensures comparison { ComparisonsAreRows }
+    ensures conjunction { ConjunctionsAreRows }
+    ensures unequal { UnequalsAreRows }
+{}
+
+/// What the walk makes of a parse tree keeps the context rules.
+pub fn walks_are_sane()
+    ensures { WalksAreSane }
+{}
