@@ -1,7 +1,7 @@
 -- What follows from how a source, a file and words are answered.
 use Rattle.std.proofs.Common.{◌≡◌, ◌≢◌, ◌∙◌, sym, subst, ℕ, ◌<◌, ◌≤◌, List, [], ◌∷◌, length, codes, Option, arith, true, false, ◌⊎◌, inl, inr}
 use Rattle.pc_ports.specs.Outside.{Holding, Untold, Nothing, Held, Appended}
-use Rattle.pc_syntax.specs.Named.{Bytes}
+use Rattle.pc_text.specs.Bytes.{Bytes}
 use Rattle.pc_syntax.specs.declared.program.Program.{Program}
 use Rattle.pc_syntax.specs.Spelling.{Spells}
 use Rattle.pc_app.specs.declared.status.TheConstants.{DONE, USAGE, REFUSED, STORE_FAILED, SINK_FAILED, NO_MEMORY, TOO_LONG}

@@ -1,7 +1,7 @@
 -- Words are answered as the command is that they are.
 use Rattle.std.proofs.Common.{ℕ, List, Result, Ok, Err, IfOk, IfErr}
 use Rattle.pc_ports.specs.Outside.{Holding}
-use Rattle.pc_syntax.specs.Named.{Bytes}
+use Rattle.pc_text.specs.Bytes.{Bytes}
 use Rattle.pc_app.specs.declared.words.Command.{Command}
 use Rattle.pc_app.specs.declared.words.Command.TheVariants as command
 use Rattle.pc_app.specs.declared.answer.Answer.{Answer}

@@ -3,7 +3,7 @@ use Rattle.std.proofs.Common.{◌≡◌, ℕ, ◌+◌, ◌<◌, ◌≤◌, ◌�
 use Rattle.std.proofs.lemmas.List.{take_all}
 use Rattle.pc_ports.specs.Outside.{Holding, Untold, Nothing, Held, TakenFrom}
 use Rattle.pc_text.specs.declared.text.NoMemory.{NoMemory}
-use Rattle.pc_syntax.specs.Named.{Bytes}
+use Rattle.pc_text.specs.Bytes.{Bytes}
 use Rattle.pc_syntax.specs.declared.program.Program.{Program}
 use Rattle.pc_syntax.specs.Spelling.{Spells}
 use Rattle.pc_app.specs.declared.answer.Answer.{Answer}

@@ -1,7 +1,7 @@
 -- Why words are not answered.
 use Rattle.std.specs.Prelude.{◌≡◌, ◌⊎◌, ℕ, List}
 use Rattle.pc_ports.specs.Outside.{Holding, Nothing, Rose}
-use Rattle.pc_syntax.specs.Named.{Bytes}
+use Rattle.pc_text.specs.Bytes.{Bytes}
 use Rattle.pc_app.specs.declared.answer.Silence.{Silence}
 use Rattle.pc_app.specs.declared.answer.Silence.TheVariants.{Store, Memory}
 use Rattle.pc_app.specs.declared.words.Command.{Command}

@@ -2,7 +2,7 @@
 use Rattle.std.specs.Prelude.{◌≡◌, ◌++◌, ℤ, pos, codes}
 use Rattle.pc_text.specs.declared.place.Place.{Place}
 use Rattle.pc_text.specs.Numerals.{numeral}
-use Rattle.pc_syntax.specs.Named.{Bytes}
+use Rattle.pc_text.specs.Bytes.{Bytes}
 use Rattle.pc_syntax.specs.declared.fault.SourceFault.{SourceFault}
 use Rattle.pc_syntax.specs.declared.fault.SourceFault.TheVariants as fault
 

@@ -112,7 +112,7 @@ fn answer_to_program(alloc: Global, program: &Program) -> Result<Answer, NoMemor
     let alternatives = alternatives_of(alloc, program)?;
     Ok(Answer {
         status: DONE,
-        text: condition(alloc, &program.names, alternatives.as_slice())?,
+        text: condition(alloc, alternatives.as_slice(), &program.names)?,
     })
 }
 
