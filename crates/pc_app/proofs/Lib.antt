@@ -5,3 +5,5 @@ pub mod CommandLemmas
 pub mod TextLemmas
 pub mod AnswerLemmas
 pub mod EndLemmas
+pub mod NeedLemmas
+pub mod StmtLemmas
