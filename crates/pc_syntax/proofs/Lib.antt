@@ -1,6 +1,7 @@
 pub mod Results
 pub mod Exprs
 pub mod FormLemmas
+pub mod FitLemmas
 pub mod RowLemmas
 pub mod Trees
 pub mod Folds

@@ -203,7 +203,7 @@ declare_counts : (src : Bytes) (names : List Bytes) (symbol : Symbol) → IfOk (
 declare_counts src names symbol = by (is_some (number_of names (walk.word src symbol))) (nat_lt (length names) VARIABLES) refl
   where
     by : (a b : Bool) → nat_lt (length names) VARIABLES ≡ b →
-        IfOk {T = List Bytes} {E = SourceFault} (cond a (Err (fault.DuplicateName symbol.place)) (cond b (Ok (names ++ walk.word src symbol ∷ [])) (Err (fault.TooManyNames symbol.place)))) (AreDeclared (length names + 1))
+        IfOk {T = List Bytes} {E = SourceFault} (bind {A = Unit {0}} (cond a (Err (fault.DuplicateName symbol.place)) (cond b (Ok tt) (Err (fault.TooManyNames symbol.place)))) (λ u. Ok (names ++ walk.word src symbol ∷ []))) (AreDeclared (length names + 1))
     by true b e = tt
     by false false e = tt
     by false true e =

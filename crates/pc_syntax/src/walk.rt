@@ -1,5 +1,10 @@
 //! The walk over a parse tree by the context rules.
 
+mod exprs;
+mod names;
+mod stmts;
+mod tests;
+
 use crate::tree::{Expr, Stmt};
 use pc_rows::Row;
 use sqlite_items::Items;
