@@ -197,7 +197,7 @@ content_of p = record { place = p.place; names = p.names; body = p.body }
 
 -- the names of a program, its parameters before its locals
 abbrev pub checked_names : Bytes → ProgramTree → Result (List Bytes) SourceFault
-checked_names src tree = declared_after src [] (tree.params ++ tree.locals)
+checked_names src tree = bind (declared_after src [] tree.params) (λ names. declared_after src names tree.locals)
 
 -- the walk over a parse tree: the names, and then the statements, over an edge that leads into the program
 abbrev pub checked : Bytes → ProgramTree → Result Content SourceFault

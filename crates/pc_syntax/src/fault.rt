@@ -1,5 +1,5 @@
 use crate::normal::AffineFault;
-use pc_text::Place;
+use pc_text::{NoMemory, Place};
 use std::alloc::AllocError;
 
 /// Why a text is no program: the first rule that it breaks, and where.
@@ -45,6 +45,17 @@ impl From<AllocError> for SourceFault {
     ghost from_gives = { λ _ f. f ≡ NoMemory };
 
     fn from(_: AllocError) -> SourceFault {
+        SourceFault::NoMemory
+    }
+}
+
+impl From<NoMemory> for SourceFault {
+    ghost use Rattle.std.specs.Prelude.{◌≡◌};
+    ghost use Rattle.pc_syntax.specs.declared.fault.SourceFault.TheVariants.{NoMemory};
+
+    ghost from_gives = { λ _ f. f ≡ NoMemory };
+
+    fn from(_: NoMemory) -> SourceFault {
         SourceFault::NoMemory
     }
 }

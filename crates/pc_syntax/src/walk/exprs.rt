@@ -84,7 +84,11 @@ fn added(alloc: Global, x: Formed, y: Formed, place: Place) -> Result<Formed, So
     ensures { Gives result (spec.formed (Expr.Add x.expr y.expr place) (fits (AffineFault.Past place) (sum_of x.form y.form))) }
 {
     let form = sum(&x.form, &y.form, place)?;
-    let expr = Expr::Add(Boxed::new(alloc, x.expr)?, Boxed::new(alloc, y.expr)?, place);
+    let expr = Expr::Add(
+        Boxed::new(alloc, x.expr)?,
+        Boxed::new(alloc, y.expr)?,
+        place,
+    );
     Ok(Formed { expr, form })
 }
 
@@ -92,7 +96,11 @@ fn subtracted(alloc: Global, x: Formed, y: Formed, place: Place) -> Result<Forme
     ensures { Gives result (spec.formed (Expr.Sub x.expr y.expr place) (fits (AffineFault.Past place) (difference_of x.form y.form))) }
 {
     let form = difference(&x.form, &y.form, place)?;
-    let expr = Expr::Sub(Boxed::new(alloc, x.expr)?, Boxed::new(alloc, y.expr)?, place);
+    let expr = Expr::Sub(
+        Boxed::new(alloc, x.expr)?,
+        Boxed::new(alloc, y.expr)?,
+        place,
+    );
     Ok(Formed { expr, form })
 }
 
@@ -100,6 +108,10 @@ fn multiplied(alloc: Global, x: Formed, y: Formed, place: Place) -> Result<Forme
     ensures { Gives result (spec.formed (Expr.Mul x.expr y.expr place) (product place x.form y.form)) }
 {
     let form = product(&x.form, &y.form, place)?;
-    let expr = Expr::Mul(Boxed::new(alloc, x.expr)?, Boxed::new(alloc, y.expr)?, place);
+    let expr = Expr::Mul(
+        Boxed::new(alloc, x.expr)?,
+        Boxed::new(alloc, y.expr)?,
+        place,
+    );
     Ok(Formed { expr, form })
 }

@@ -158,12 +158,7 @@ fn is_alone(cs: &[CompareTree]) -> bool
 }
 
 /// The test of an `if` or a `while`.
-pub fn test(
-    alloc: Global,
-    src: &[u8],
-    names: &Names,
-    tree: &TestTree,
-) -> Result<Test, SourceFault>
+pub fn test(alloc: Global, src: &[u8], names: &Names, tree: &TestTree) -> Result<Test, SourceFault>
     requires few { length names.now.names ≤ VARIABLES }
     requires fit { fit_test (length src.now) tree.now ≡ true }
     ensures { Gives result (spec.checked_test src.now names.now.names tree.now) }
@@ -224,7 +219,9 @@ fn end_of(bound: Bound) -> i128
 fn choice(choice: Option<Choice>) -> Result<Option<Choice>, SourceFault>
     ensures { result ≡ spec.checked_choice choice }
 {
-    let Some(c) = choice else { return Ok(None); };
+    let Some(c) = choice else {
+        return Ok(None);
+    };
     let lo = end_of(c.lo);
     let hi = end_of(c.hi);
     if hi < lo {
