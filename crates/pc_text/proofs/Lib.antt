@@ -9,3 +9,5 @@ pub mod NumeralLengths
 pub mod NumeralTexts
 pub mod NumeralReads
 pub mod NameLemmas
+pub mod LineLemmas
+mod Examples

@@ -3,13 +3,17 @@
 
 mod lex;
 mod lexeme;
+mod lines;
 mod names;
 mod number;
 mod place;
+#[cfg(test)]
+mod tests;
 mod text;
 mod token;
 
 pub use lex::tokens;
+pub use lines::Lines;
 pub use names::Names;
 pub use number::read_number;
 pub use place::{Place, place_from, place_of};
