@@ -1,29 +1,26 @@
 -- The condition of a line suffices, and is needed.
-use Rattle.std.proofs.Common.{◌≡◌, ◌∙◌, sym, ap, refl, subst, ℕ, zero, suc, ◌+◌, ◌-◌, ◌<◌, ◌≤◌, ◌↔◌, ◌⊎◌, inl, inr, arith, List, [], ◌∷◌, ◌++◌, length, Bool, true, false, map, ℤ, pos, ◌≤ℤ◌, replicate, get_or, length-append, All}
+use Rattle.std.proofs.Common.{◌≡◌, sym, refl, subst, ℕ, zero, suc, ◌<◌, ◌≤◌, ◌↔◌, ◌⊎◌, inl, inr, arith, List, [], ◌∷◌, ◌++◌, length, true, map, ℤ, pos, ◌≤ℤ◌, replicate, get_or, length-append, All}
 use Rattle.std.specs.Prelude.{nat_le, ◌&&◌}
 use Rattle.std.specs.List.{AllByRecursion}
 use Rattle.std.proofs.lemmas.Bool.Decides.{nat_tests}
 use Rattle.std.proofs.lemmas.List.{length-replicate}
-use Rattle.pc_rows.specs.Linear.{Linear, value, Meets, MeetsAll, MeetsSome, coefficient, first_of, zero_from}
-use Rattle.pc_rows.specs.Joins.{joined}
+use Rattle.pc_rows.specs.Linear.{Linear, MeetsAll, MeetsSome, first_of, zero_from}
 use Rattle.pc_rows.specs.declared.rows.TheConstants.{ROWS}
 use Rattle.pc_rows.specs.declared.row.TheConstants.{VARIABLES}
 use Rattle.pc_rows.proofs.Joining.{join_is_both, joined_each}
 use Rattle.pc_rows.proofs.Carrying.{substitution_is_exact}
 use Rattle.pc_rows.proofs.First.{value_at_entry}
 use Rattle.pc_cert.specs.Conditions.{IsWithin}
-use Rattle.pc_text.specs.Named.{Named, locals}
+use Rattle.pc_text.specs.Named.{locals}
 use Rattle.pc_syntax.specs.declared.limits.TheConstants.{EDGES}
 use Rattle.pc_syntax.specs.declared.program.Program.{Program}
-use Rattle.pc_syntax.specs.declared.tree.Stmt.{Stmt}
 use Rattle.pc_syntax.specs.Values.{State}
 use Rattle.pc_syntax.specs.Machine.{Going, started, Safe}
 use Rattle.pc_syntax.specs.Sane.{is_sane, sane_stmts, edges_of}
 use Rattle.pc_syntax.proofs.Results.{and_is}
 use Rattle.pc_app.specs.Line.{is_line, need, LineFits, HasViolation}
-use Rattle.pc_app.specs.Tame.{IsTame}
 use Rattle.pc_app.specs.Needed.{at_entry}
-use Rattle.pc_app.specs.Inferred.{IsEntry, IsCondition, Suffices, IsNeeded, Inferred}
+use Rattle.pc_app.specs.Inferred.{IsEntry, Suffices, IsNeeded, Inferred}
 use Rattle.pc_app.proofs.LineLaws.{need_is_enough, need_is_least}
 use Rattle.pc_app.proofs.SaneLemmas.{line_meant}
 use Rattle.pc_app.proofs.TameLemmas.{tame_fits}
@@ -104,7 +101,7 @@ line_suffices p rows keeps line e s entry meets = by meets
     by : MeetsSome s (rows ∷ []) → Safe p s
     by (inl m) =
         need_is_enough join_is_both substitution_is_exact (length p.names.names) p.body (started p s) (started_long p s keeps entry) line (line_meant (length p.names.names) p.body line keeps.stmts)
-          ((entry_met p.names.params (locals p.names) s (need p.body) entry).0 (rw e at m))
+        ((entry_met p.names.params (locals p.names) s (need p.body) entry).0 (rw e at m))
     by (inr n) = absurd n
 
 -- a state that does not meet it has a run that violates an assertion
@@ -117,18 +114,21 @@ line_is_needed p rows keeps line e s entry = by (need_is_least join_is_both subs
 
 pub line_inferred : (p : Program) (rows : List Linear) → Kept p → is_line p.body ≡ true → rows ≡ at_entry p.names.params (need p.body) → length rows ≤ ROWS → Inferred p (rows ∷ [])
 line_inferred p rows keeps line e most = record {
-    small = record {
-      alternatives = omega arith;
-      rows = only (λ rows. length rows ≤ ROWS) rows most;
-      parameters = only (All (IsWithin p.names.params)) rows (rw e (entry_within p.names.params (need p.body))) };
-    sound = line_suffices p rows keeps line e;
-    exact = λ straight tame. line_is_needed p rows keeps line e }
+  small = record {
+    alternatives = omega arith;
+    rows = only (λ rows. length rows ≤ ROWS) rows most;
+    parameters = only (All (IsWithin p.names.params)) rows (rw e (entry_within p.names.params (need p.body)));
+  };
+  sound = line_suffices p rows keeps line e;
+  exact = λ straight tame. line_is_needed p rows keeps line e;
+}
 
 pub beyond_inferred : (p : Program) → (LineFits p.body → ⊥) → Inferred p []
 beyond_inferred p beyond = record {
-    small = record { alternatives = omega arith; rows = none (λ rows. length rows ≤ ROWS); parameters = none (All (IsWithin p.names.params)) };
-    sound = λ s entry meets. absurd meets;
-    exact = λ line tame s entry. absurd (beyond (tame_fits p.body tame)) }
+  small = record { alternatives = omega arith; rows = none (λ rows. length rows ≤ ROWS); parameters = none (All (IsWithin p.names.params)) };
+  sound = λ s entry meets. absurd meets;
+  exact = λ line tame s entry. absurd (beyond (tame_fits p.body tame));
+}
 
 -- over the parameters is over the names
 pub named : (p : Program) (condition : List (List Linear)) → Kept p → All (All (IsWithin p.names.params)) condition → All (All (IsWithin (length p.names.names))) condition

@@ -1,19 +1,17 @@
 -- What a program keeps makes its line ready to be analysed, and its rows and forms say what they are to say.
-use Rattle.std.proofs.Common.{◌≡◌, ◌∙◌, sym, ap, refl, ℕ, ◌<◌, ◌≤◌, ◌↔◌, arith, List, [], ◌∷◌, length, Bool, true, false, map}
-use Rattle.std.specs.Prelude.{◌&&◌, not, nat_lt, nat_le, is_none}
+use Rattle.std.proofs.Common.{◌≡◌, ◌∙◌, sym, refl, ℕ, ◌<◌, ◌≤◌, arith, List, [], ◌∷◌, length, Bool, true}
+use Rattle.std.specs.Prelude.{◌&&◌, not, nat_lt, nat_le}
 use Rattle.std.specs.List.{list_all}
 use Rattle.std.proofs.lemmas.Bool.Decides.{nat_tests}
-use Rattle.pc_rows.specs.Linear.{Linear, value, MeetsAll, is_in_range, negation}
+use Rattle.pc_rows.specs.Linear.{Linear, is_in_range, negation}
 use Rattle.pc_rows.specs.declared.row.TheConstants.{VARIABLES}
 use Rattle.pc_syntax.specs.declared.limits.TheConstants.{COMPARISONS}
 use Rattle.pc_syntax.specs.declared.tree.Compare.{Compare}
-use Rattle.pc_syntax.specs.declared.tree.Expr.{Expr}
 use Rattle.pc_syntax.specs.declared.tree.Stmt.{Stmt, Stmt-F, out-Stmt, fold-Stmt, map-Stmt, fold_out-Stmt}
 use Rattle.pc_syntax.specs.declared.tree.Stmt.TheOpen as stmt
-use Rattle.pc_syntax.specs.Values.{State, value_of, all_hold}
 use Rattle.pc_syntax.specs.Forms.{form, is_affine, is_unequal, has_rows, rows_of, rows_all, row_fits}
 use Rattle.pc_syntax.specs.Forms as forms
-use Rattle.pc_syntax.specs.Sane.{sane_expr, names_below, sane_compare, sane_each, sane_all, sane_choice, sane_right, sane_step, sane_stmt, sane_stmts, all_true}
+use Rattle.pc_syntax.specs.Sane.{sane_expr, names_below, sane_compare, sane_all, sane_choice, sane_right, sane_step, sane_stmt, sane_stmts}
 use Rattle.pc_syntax.proofs.Results.{and_is, and_of}
 use Rattle.pc_syntax.proofs.FormLemmas.{forms_are_right}
 use Rattle.pc_syntax.proofs.RowLemmas.{conjunctions_are_rows}

@@ -1,5 +1,5 @@
 -- A tame line fits: its rows are carried back without leaving the range.
-use Rattle.std.proofs.Common.{◌≡◌, ℕ, ◌^◌, ◌<◌, ◌≤◌, ◌+◌, ◌*◌, List, [], ◌∷◌, length, pos, arith, true, lit<}
+use Rattle.std.proofs.Common.{ℕ, ◌^◌, ◌<◌, ◌+◌, ◌*◌, List, [], ◌∷◌, pos, arith, lit<}
 use Rattle.std.specs.List.{AllByRecursion}
 use Rattle.pc_rows.specs.Linear.{Linear}
 use Rattle.pc_rows.specs.Bounds.{IsWithin, Within, AllWithin}
@@ -7,7 +7,7 @@ use Rattle.pc_rows.specs.Substitution.{SubstituteFits}
 use Rattle.pc_rows.proofs.Bounding.{small_substitution_fits}
 use Rattle.pc_syntax.specs.declared.tree.Stmt.{Stmt, Stmt-F, out-Stmt}
 use Rattle.pc_syntax.specs.declared.tree.Stmt.TheOpen as stmt
-use Rattle.pc_app.specs.Line.{is_plain, is_line, need, need_over, StepFits, LineFits}
+use Rattle.pc_app.specs.Line.{need, need_over, StepFits, LineFits}
 use Rattle.pc_app.specs.Tame.{tame_bound, HasTameNumbers, AreTame, IsTame}
 
 small : tame_bound + tame_bound * tame_bound + tame_bound * tame_bound < 2 ^ 127

@@ -1,10 +1,9 @@
-use Rattle.std.proofs.Common.{◌≡◌, ℕ, ◌∙◌, sym, ap, subst, arith, List, [], ◌∷◌, length, ◌≤◌, true, Err}
+use Rattle.std.proofs.Common.{ℕ, ◌∙◌, ap, subst, List, length, Err}
 use Rattle.pc_rows.specs.Linear.{Linear}
 use Rattle.pc_syntax.specs.declared.tree.Stmt.{Stmt}
 use Rattle.pc_app.specs.Line.{need, LineFits}
 use Rattle.pc_app.specs.declared.need.NeedFault.{NeedFault}
 use Rattle.pc_app.specs.Needed.{at_entry, IsNeed}
-use Rattle.pc_app.specs.Ready.{are_ready}
 use Rattle.pc_app.specs.Inferred.{Inferred}
 use Rattle.pc_app.proofs.SaneLemmas.{line_ready}
 use Rattle.pc_app.proofs.InferLemmas.{kept, line_inferred, beyond_inferred, named}
