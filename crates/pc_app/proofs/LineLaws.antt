@@ -1,32 +1,22 @@
 -- States that meet the need of a line violate no assertion, and each other state has a run that does.
-use Rattle.std.proofs.Common.{◌≡◌, ℕ, ◌<◌, ℤ, pos, ◌+ℤ◌, ◌≤ℤ◌, refl, sym, ap, subst, ◌∙◌, arith, List, [], ◌∷◌, ◌++◌, length, set, Bool, true, false, cond, Option, Some, None, ◌⊎◌, inl, inr, length-set}
-use Rattle.std.specs.Prelude.{◌&&◌, is_none, slice_set, not, nat_le, nat_lt, replicate}
-use Rattle.std.specs.List.{list_all}
-use Rattle.std.proofs.lemmas.Bool.{ltb-true}
+use Rattle.std.proofs.Common.{◌≡◌, ℕ, ◌<◌, ℤ, pos, ◌+ℤ◌, ◌≤ℤ◌, refl, sym, subst, ◌∙◌, arith, List, [], ◌∷◌, ◌++◌, length, Bool, true, false, cond, Option, Some, None, ◌⊎◌, inl, inr, length-set}
+use Rattle.std.specs.Prelude.{◌&&◌, is_none, slice_set}
 use Rattle.std.proofs.lemmas.Int.{ints}
-use Rattle.std.proofs.Math.IntN.{+ℤ_idr}
 use Rattle.pc_text.specs.declared.place.Place.{Place}
 use Rattle.pc_grammar.specs.declared.tree.Choice.{Choice}
 use Rattle.pc_rows.specs.Linear.{Linear, value, Meets, MeetsAll}
 use Rattle.pc_rows.specs.Joins.{joined}
-use Rattle.pc_rows.specs.Substitution.{substituted}
-use Rattle.pc_rows.proofs.Joining.{each_join, each_left, each_right, join_is_both}
-use Rattle.pc_rows.proofs.Carrying.{substitution_is_exact}
-use Rattle.pc_rows.proofs.First.{value_at_entry}
-use Rattle.pc_syntax.specs.declared.tree.Stmt.{Stmt, Stmt-F, out-Stmt, map-Stmt, fold_out-Stmt}
+use Rattle.pc_rows.specs.Laws.{JoinIsBoth, SubstitutionIsExact}
+use Rattle.pc_syntax.specs.declared.tree.Stmt.{Stmt, Stmt-F, out-Stmt}
 use Rattle.pc_syntax.specs.declared.tree.Stmt.TheOpen as stmt
-use Rattle.pc_syntax.specs.declared.tree.Compare.{Compare}
-use Rattle.pc_syntax.specs.declared.tree.Expr.{Expr}
 use Rattle.pc_syntax.specs.Values.{State, value_of, all_hold}
-use Rattle.pc_syntax.specs.Machine.{Outcome, Going, Violated, Blocked, Ended, drawn, step_at, step, next, run}
-use Rattle.pc_syntax.specs.Forms.{form, rows_of, rows_all, is_affine, is_unequal, has_rows, row_fits}
-use Rattle.pc_syntax.specs.Forms as forms
-use Rattle.pc_syntax.specs.Sane.{names_below, sane_expr, sane_compare, sane_each, sane_all, sane_choice, sane_right, sane_step, sane_stmt, sane_stmts}
-use Rattle.pc_syntax.specs.declared.limits.TheConstants.{COMPARISONS}
-use Rattle.pc_syntax.proofs.Results.{and_is, and_of}
-use Rattle.pc_syntax.proofs.FormLemmas.{forms_are_right}
-use Rattle.pc_syntax.proofs.RowLemmas.{conjunctions_are_rows}
-use Rattle.pc_app.specs.Line.{is_plain, is_line, carried_back, need_over, need, entered, StepMeant, LineMeant, HasViolation}
+use Rattle.pc_syntax.specs.Machine.{Outcome, Going, Violated, Ended, drawn, step_at, run}
+use Rattle.pc_syntax.specs.Forms.{form, rows_all}
+use Rattle.pc_app.specs.Line.{is_plain, is_line, carried_back, need_over, need, StepMeant, LineMeant, HasViolation}
+
+and_is : (b c : Bool) → (b && c) ≡ true → (b ≡ true) × (c ≡ true)
+and_is true c h = (refl, h)
+and_is false c h = absurd (cc)
 
 -- a run that has ended stays so
 pub ended_stays : (cs : List ℤ) (q : Place) → run Ended cs ≡ Violated q → ⊥
@@ -65,21 +55,24 @@ into_joined s rows m = (join_is_both [] rows s).1 (tt, m)
 abbrev Goes : ℕ → List Stmt → Outcome → Type 0
 Goes n k o = (t : State) × (o ≡ Going k t) × (length t ≡ n) × MeetsAll t (need k)
 
-kept_step : (n : ℕ) (x : Stmt) (y : Stmt-F Stmt) (k : List Stmt) (s : State) (c : ℤ) → length s ≡ n → is_plain y ≡ true → StepMeant n y →
-    MeetsAll s (need_over y (need k)) → Goes n k (step_at x y k s c)
-kept_step n x (stmt.Set p v r) k s c e plain meant m =
-    let next_state = slice_set s v (value_of s r.expr +ℤ drawn r.choice c) in
-    let below : v < length s = rw e meant.0 in
-    let same : next_state ≡ slice_set s v (value (form r.expr) s +ℤ pos 0) = rw (drawn_none r.choice c plain, meant.1 s) refl in
-    (next_state, refl, length-set s v (value_of s r.expr +ℤ drawn r.choice c) ∙ e,
-     subst (λ (t : State). MeetsAll t (need k)) (sym same) (carried_down s v (form r.expr) (need k) below (over_joined s _ m)))
-kept_step n x (stmt.If p t xs ys) k s c e plain meant m = absurd (cc)
-kept_step n x (stmt.While p t tried xs) k s c e plain meant m = absurd (cc)
-kept_step n x (stmt.Assert p cs) k s c e plain meant m =
-    let all = over_joined s _ m in
-    let held = (meant s).0 (each_left (Meets s) (rows_all cs) (need k) all) in
-    (s, rw held refl, e, each_right (Meets s) (rows_all cs) (need k) all)
-kept_step n x (stmt.Assume p cs) k s c e plain meant m = absurd (cc)
+  kept_step : (n : ℕ) (x : Stmt) (y : Stmt-F Stmt) (k : List Stmt) (s : State) (c : ℤ) → length s ≡ n → is_plain y ≡ true → StepMeant n y →
+      MeetsAll s (need_over y (need k)) → Goes n k (step_at x y k s c)
+  kept_step n x (stmt.Set p v r) k s c e plain meant m =
+      let next_state = slice_set s v (value_of s r.expr +ℤ drawn r.choice c) in
+      let below : v < length s = rw e meant.0 in
+      let same : next_state ≡ slice_set s v (value (form r.expr) s +ℤ pos 0) = rw (drawn_none r.choice c plain, meant.1 s) refl in (
+        next_state,
+        refl,
+        length-set s v (value_of s r.expr +ℤ drawn r.choice c) ∙ e,
+        subst (λ (t : State). MeetsAll t (need k)) (sym same) (carried_down s v (form r.expr) (need k) below (over_joined s _ m)),
+      )
+  kept_step n x (stmt.If p t xs ys) k s c e plain meant m = absurd (cc)
+  kept_step n x (stmt.While p t tried xs) k s c e plain meant m = absurd (cc)
+  kept_step n x (stmt.Assert p cs) k s c e plain meant m =
+      let all = over_joined s _ m in
+      let held = (meant s).0 (MeetsAll-left s (rows_all cs) (need k) all) in
+      (s, rw held refl, e, MeetsAll-right s (rows_all cs) (need k) all)
+  kept_step n x (stmt.Assume p cs) k s c e plain meant m = absurd (cc)
 
 -- from a state that meets the need no list of choices violates an assertion
 pub need_is_enough : (n : ℕ) (k : List Stmt) (s : State) → length s ≡ n → is_line k ≡ true → LineMeant n k → MeetsAll s (need k) →
