@@ -13,6 +13,8 @@ mod right;
 mod stmt;
 mod symbol;
 mod terminals;
+#[cfg(test)]
+mod tests;
 mod tree;
 
 pub use fault::ParseFault;
