@@ -1,20 +1,16 @@
 -- States that meet the need of a line violate no assertion, and each other state has a run that does.
-use Rattle.std.proofs.Common.{◌≡◌, ℕ, ◌<◌, ℤ, pos, ◌+ℤ◌, ◌≤ℤ◌, refl, sym, ap, subst, ◌∙◌, arith, List, [], ◌∷◌, ◌++◌, length, set, Bool, true, false, cond, Option, Some, None, ◌⊎◌, inl, inr, length-set}
+use Rattle.std.proofs.Common.{◌≡◌, ℕ, ◌<◌, ℤ, pos, ◌+ℤ◌, ◌≤ℤ◌, refl, sym, subst, ◌∙◌, arith, List, [], ◌∷◌, ◌++◌, length, Bool, true, false, cond, Option, Some, None, ◌⊎◌, inl, inr, length-set}
 use Rattle.std.specs.Prelude.{◌&&◌, is_none, slice_set}
 use Rattle.std.proofs.lemmas.Int.{ints}
-use Rattle.std.proofs.Math.IntN.{+ℤ_idr}
 use Rattle.pc_text.specs.declared.place.Place.{Place}
 use Rattle.pc_grammar.specs.declared.tree.Choice.{Choice}
 use Rattle.pc_rows.specs.Linear.{Linear, value, Meets, MeetsAll}
 use Rattle.pc_rows.specs.Joins.{joined}
-use Rattle.pc_rows.specs.Substitution.{substituted}
 use Rattle.pc_rows.specs.Laws.{JoinIsBoth, SubstitutionIsExact}
 use Rattle.pc_syntax.specs.declared.tree.Stmt.{Stmt, Stmt-F, out-Stmt}
 use Rattle.pc_syntax.specs.declared.tree.Stmt.TheOpen as stmt
-use Rattle.pc_syntax.specs.declared.tree.Compare.{Compare}
-use Rattle.pc_syntax.specs.declared.tree.Expr.{Expr}
 use Rattle.pc_syntax.specs.Values.{State, value_of, all_hold}
-use Rattle.pc_syntax.specs.Machine.{Outcome, Going, Violated, Blocked, Ended, drawn, step_at, step, next, run}
+use Rattle.pc_syntax.specs.Machine.{Outcome, Going, Violated, Ended, drawn, step_at, run}
 use Rattle.pc_syntax.specs.Forms.{form, rows_all}
 use Rattle.pc_app.specs.Line.{is_plain, is_line, carried_back, need_over, need, StepMeant, LineMeant, HasViolation}
 
@@ -77,9 +73,12 @@ module _ (joins : JoinIsBoth) (exact : SubstitutionIsExact) where
   kept_step n x (stmt.Set p v r) k s c e plain meant m =
       let next_state = slice_set s v (value_of s r.expr +ℤ drawn r.choice c) in
       let below : v < length s = rw e meant.0 in
-      let same : next_state ≡ slice_set s v (value (form r.expr) s +ℤ pos 0) = rw (drawn_none r.choice c plain, meant.1 s) refl in
-      (next_state, refl, length-set s v (value_of s r.expr +ℤ drawn r.choice c) ∙ e,
-       subst (λ (t : State). MeetsAll t (need k)) (sym same) (carried_down s v (form r.expr) (need k) below (over_joined s _ m)))
+      let same : next_state ≡ slice_set s v (value (form r.expr) s +ℤ pos 0) = rw (drawn_none r.choice c plain, meant.1 s) refl in (
+        next_state,
+        refl,
+        length-set s v (value_of s r.expr +ℤ drawn r.choice c) ∙ e,
+        subst (λ (t : State). MeetsAll t (need k)) (sym same) (carried_down s v (form r.expr) (need k) below (over_joined s _ m)),
+      )
   kept_step n x (stmt.If p t xs ys) k s c e plain meant m = absurd (cc)
   kept_step n x (stmt.While p t tried xs) k s c e plain meant m = absurd (cc)
   kept_step n x (stmt.Assert p cs) k s c e plain meant m =
