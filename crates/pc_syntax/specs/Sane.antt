@@ -8,7 +8,8 @@ use Rattle.pc_grammar.specs.declared.tree.Op.{Op}
 use Rattle.pc_grammar.specs.declared.tree.Bound.{Bound}
 use Rattle.pc_grammar.specs.declared.tree.Bound.TheVariants as bound
 use Rattle.pc_grammar.specs.declared.tree.Choice.{Choice}
-use Rattle.pc_syntax.specs.declared.limits.TheConstants.{COMPARISONS, EDGES}
+use Rattle.pc_grammar.specs.declared.limits.TheConstants.{COMPARISONS}
+use Rattle.pc_syntax.specs.declared.limits.TheConstants.{EDGES}
 use Rattle.pc_syntax.specs.declared.tree.Expr.{Expr, Expr-F, fold-Expr}
 use Rattle.pc_syntax.specs.declared.tree.Expr.TheOpen as expr
 use Rattle.pc_syntax.specs.declared.tree.Compare.{Compare}

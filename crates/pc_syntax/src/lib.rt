@@ -13,9 +13,9 @@ mod walk;
 
 pub use fault::SourceFault;
 pub use laws::{forms_are_right, rows_are_right, walks_are_sane};
-pub use limits::{COMPARISONS, EDGES};
+pub use limits::EDGES;
 pub use normal::{AffineFault, affine};
-pub use pc_grammar::{Bound, Choice, Op};
+pub use pc_grammar::{Bound, COMPARISONS, Choice, Op};
 pub use pc_text::Names;
 pub use program::Program;
 pub use reading::read;
