@@ -8,6 +8,8 @@ mod normal;
 mod program;
 mod reading;
 mod rows;
+#[cfg(test)]
+mod tests;
 mod tree;
 mod walk;
 
