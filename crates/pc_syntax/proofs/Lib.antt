@@ -9,3 +9,6 @@ pub mod WalkedExprs
 pub mod WalkedTests
 pub mod WalkedStmts
 pub mod StepLemmas
+pub mod SymbolFits
+pub mod Phrases
+pub mod TreeFits
