@@ -12,3 +12,4 @@ pub mod StepLemmas
 pub mod SymbolFits
 pub mod Phrases
 pub mod TreeFits
+pub mod Readings

@@ -1,12 +1,12 @@
 -- What holds of the phrases of a language: of their trees, and of their words.
-use Rattle.std.proofs.Common.{◌≡◌, ℕ, ◌+◌, ◌≤◌, refl, sym, ◌∙◌, ap, subst, arith, List, [], ◌∷◌, ◌++◌, append_assoc, length, Bool, true, false, Option, Some, None, inl, inr, Result, Ok, Err}
-use Rattle.std.specs.Prelude.{◌&&◌, ◌⊎◌}
+use Rattle.std.proofs.Common.{◌≡◌, ℕ, refl, sym, ◌∙◌, ap, subst, List, [], ◌∷◌, ◌++◌, Bool, true, Option, Some, None, inl, inr, Result, Ok, Err}
+use Rattle.std.specs.Prelude.{◌&&◌}
 use Rattle.std.specs.List.{list_all}
 use Rattle.pc_grammar.specs.declared.symbol.Symbol.{Symbol}
 use Rattle.pc_grammar.specs.declared.symbol.Terminal.{Terminal}
 use Rattle.pc_grammar.specs.declared.limits.Counts.{Counts}
 use Rattle.pc_grammar.specs.Combinators.{Text, Lang, is_map, is_both, is_either, is_maybe, is_many, is_dead}
-use Rattle.pc_grammar.specs.Terminals.{among, the, is_one, is_one_of}
+use Rattle.pc_grammar.specs.Terminals.{among, is_one_of}
 use Rattle.pc_grammar.specs.Limits.{and_on, counts}
 use Rattle.pc_grammar.proofs.Scans.{counts_append}
 use Rattle.pc_grammar.proofs.Sets.{within, wider}

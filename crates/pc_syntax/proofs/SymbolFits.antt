@@ -1,13 +1,12 @@
 -- The symbols of a text lie within it, and their numbers are in range.
-use Rattle.std.proofs.Common.{◌≡◌, ℕ, ◌+◌, ◌<◌, ◌≤◌, ◌^◌, ℤ, pos, refl, arith, List, [], ◌∷◌, length, map, Bool, true, false, cond, Option, Some, None, Result, Ok}
-use Rattle.std.specs.Prelude.{◌&&◌, nat_le, unsigned_abs}
+use Rattle.std.proofs.Common.{◌≡◌, ℕ, ◌+◌, ◌≤◌, pos, refl, arith, List, [], ◌∷◌, length, Bool, true, false, cond, Some, Ok}
+use Rattle.std.specs.Prelude.{◌&&◌, nat_le}
 use Rattle.std.specs.List.{list_all}
 use Rattle.std.proofs.lemmas.Bool.Decides.{nat_tests}
 use Rattle.pc_text.specs.Bytes.{Bytes}
-use Rattle.pc_text.specs.Lexemes.{Lexeme, IsSplit, AllFit, Fits, kind_of, is_keyword, with_token, tokens_from, AreSpans}
+use Rattle.pc_text.specs.Lexemes.{Lexeme, AllFit, Fits, kind_of, is_keyword, with_token, tokens_from, AreSpans}
 use Rattle.pc_text.specs.Digits.{natural_of}
 use Rattle.pc_text.specs.declared.token.Token.{Token}
-use Rattle.pc_text.specs.declared.token.Kind.{Kind}
 use Rattle.pc_text.specs.declared.token.Kind.TheVariants as kind
 use Rattle.pc_text.specs.declared.token.TheConstants.{LARGEST}
 use Rattle.pc_text.specs.declared.lexeme.Form.{Form}

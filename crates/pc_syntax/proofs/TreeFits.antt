@@ -1,6 +1,6 @@
 -- The parse trees of texts within the limits: names within the text, numbers in range, one to eight comparisons in a conjunction.
-use Rattle.std.proofs.Common.{◌≡◌, ℕ, zero, suc, ◌+◌, ◌-◌, ◌<◌, ◌≤◌, ℤ, pos, negsuc, refl, sym, ◌∙◌, ap, subst, arith, List, [], ◌∷◌, ◌++◌, length, map, Bool, true, false, cond, Option, Some, None, inl, inr, Result, Ok, Err}
-use Rattle.std.specs.Prelude.{◌&&◌, ◌⊎◌, nat_le, nat_lt}
+use Rattle.std.proofs.Common.{◌≡◌, ℕ, zero, suc, ◌+◌, ◌-◌, ◌<◌, ◌≤◌, ℤ, pos, negsuc, refl, sym, ◌∙◌, ap, arith, List, [], ◌∷◌, ◌++◌, length, Bool, true, false, cond, Option, Some, None, Result, Ok, Err}
+use Rattle.std.specs.Prelude.{◌&&◌, nat_le, nat_lt}
 use Rattle.std.specs.List.{list_all}
 use Rattle.std.proofs.lemmas.Bool.Decides.{nat_tests}
 use Rattle.pc_text.specs.declared.place.Place.{Place}
@@ -14,25 +14,24 @@ use Rattle.pc_grammar.specs.declared.fault.ParseFault.{ParseFault}
 use Rattle.pc_grammar.specs.declared.fault.ParseFault.TheVariants.{TooDeep, TooLong}
 use Rattle.pc_grammar.specs.declared.tree.Bound.{Bound}
 use Rattle.pc_grammar.specs.declared.tree.Choice.{Choice}
-use Rattle.pc_grammar.specs.declared.tree.ExprTree.{ExprTree, fold-ExprTree, fold-roll-ExprTree}
+use Rattle.pc_grammar.specs.declared.tree.ExprTree.{ExprTree, fold-roll-ExprTree}
 use Rattle.pc_grammar.specs.declared.tree.ExprTree.TheOpen as expr_open
 use Rattle.pc_grammar.specs.declared.tree.ExprTree.TheVariants as expr_is
 use Rattle.pc_grammar.specs.declared.tree.CompareTree.{CompareTree}
 use Rattle.pc_grammar.specs.declared.tree.TestTree.{TestTree}
 use Rattle.pc_grammar.specs.declared.tree.RightTree.{RightTree}
-use Rattle.pc_grammar.specs.declared.tree.StmtTree.{StmtTree, fold-StmtTree, fold-roll-StmtTree}
+use Rattle.pc_grammar.specs.declared.tree.StmtTree.{StmtTree, fold-roll-StmtTree}
 use Rattle.pc_grammar.specs.declared.tree.StmtTree.TheOpen as stmt_open
 use Rattle.pc_grammar.specs.declared.tree.StmtTree.TheVariants as stmt_is
 use Rattle.pc_grammar.specs.declared.tree.ProgramTree.{ProgramTree}
-use Rattle.pc_grammar.specs.Combinators.{Text, Lang, is_map, is_both, is_either, is_maybe, is_many, is_dead}
+use Rattle.pc_grammar.specs.Combinators.{Text, Lang, is_map, is_both, is_either, is_maybe, is_many}
 use Rattle.pc_grammar.specs.Terminals.{among, has, the, is_one, is_one_of}
 use Rattle.pc_grammar.specs.Expressions as grammar
 use Rattle.pc_grammar.specs.Rights as rights
 use Rattle.pc_grammar.specs.Statements as stmts
 use Rattle.pc_grammar.specs.Programs as programs
-use Rattle.pc_grammar.specs.Limits.{keywords, of_expressions, one_more, ands_after, or_else, braces_after, signs_after, is_sign, counted, and_on, counts, start, Within}
+use Rattle.pc_grammar.specs.Limits.{keywords, of_expressions, ands_after, or_else, braces_after, signs_after, is_sign, counted, and_on, counts, start, Within}
 use Rattle.pc_grammar.proofs.Sets.{parted, wider}
-use Rattle.pc_syntax.specs.Sane.{all_true}
 use Rattle.pc_syntax.specs.Trees.{fit_symbol, fit_expr_step, fit_expr, fit_compare, fit_each, fit_all, fit_test, fit_bound, fit_choice, fit_right, fit_stmt_step, fit_stmt, fit_stmts, fit_tree}
 use Rattle.pc_syntax.proofs.Results.{and_is, and_of}
 use Rattle.pc_syntax.proofs.SymbolFits.{fits}
@@ -365,6 +364,7 @@ module _ (n : ℕ) (P : Lang ExprTree) (o : Over of_expressions P) (p : Passes n
     where
       some : stmts.is_all P cs w → 0 < length cs
       some ((x, ys), e, m) = let k = ap length e in omega arith
+
       by : (cs : List CompareTree) → list_all (fit_compare n) cs ≡ true → length cs ≤ COMPARISONS → 0 < length cs → fit_all n cs ≡ true
       by [] h k m = absurd (omega arith)
       by (c ∷ cs) h k m = and_of (nat_le (length (c ∷ cs)) COMPARISONS) (list_all (fit_compare n) (c ∷ cs)) (few_test (length (c ∷ cs)) COMPARISONS k) h

@@ -1,5 +1,5 @@
 -- What every program keeps: the context rules, as a test of its names and of its body.
-use Rattle.std.specs.Prelude.{ℕ, ◌+◌, nat_lt, nat_le, int_le, List, [], ◌∷◌, length, map, sum, Option, Some, None, Bool, true, false, ◌&&◌, not, ◌==◌, if◌then◌else◌}
+use Rattle.std.specs.Prelude.{ℕ, ◌+◌, nat_lt, nat_le, int_le, List, [], ◌∷◌, length, map, sum, Option, Some, None, Bool, true, false, ◌&&◌, not, if◌then◌else◌}
 use Rattle.std.specs.List.{list_all}
 use Rattle.pc_rows.specs.declared.row.TheConstants.{VARIABLES}
 use Rattle.pc_rows.specs.Linear.{in_range}

@@ -1,8 +1,9 @@
 -- Which program a text spells, and the fault of a text that spells none.
-use Rattle.std.specs.Prelude.{◌≡◌, ◌≢◌, ◌⊎◌, ◌<◌, ◌-◌, ◌^◌, List, length, Result, Ok, Err}
+use Rattle.std.specs.Prelude.{◌≡◌, ◌≢◌, ◌⊎◌, List, length, Result, Ok, Err}
 use Rattle.pc_text.specs.Bytes.{Bytes}
 use Rattle.pc_text.specs.Places.{place_of}
 use Rattle.pc_text.specs.Answers as tokens
+use Rattle.pc_text.specs.Lex.{lex}
 use Rattle.pc_text.specs.declared.token.Token.{Token}
 use Rattle.pc_text.specs.declared.token.LexFault.{LexFault}
 use Rattle.pc_grammar.specs.Symbols.{symbols_of}
@@ -12,6 +13,7 @@ use Rattle.pc_grammar.specs.declared.fault.ParseFault.{ParseFault}
 use Rattle.pc_syntax.specs.declared.program.Program.{Program}
 use Rattle.pc_syntax.specs.declared.fault.SourceFault.{SourceFault}
 use Rattle.pc_syntax.specs.declared.fault.SourceFault.TheVariants.{NoMemory}
+use Rattle.pc_syntax.specs.Forms.{bind}
 use Rattle.pc_syntax.specs.Faults.{of_tokens, of_tree}
 use Rattle.pc_syntax.specs.Context.{Content, checked, content_of}
 
@@ -65,14 +67,41 @@ abbrev pub MeansUnless : Result Program SourceFault → Bytes → Type 0
 MeansUnless (Ok p) src = Spells src p
 MeansUnless (Err f) src = f ≢ NoMemory → Faulty src f
 
+-- two answers are the same, programs apart from the proof that they keep their rules
+abbrev pub Alike : Result Program SourceFault → Result Program SourceFault → Type 0
+Alike (Ok p) (Ok q) = content_of p ≡ content_of q
+Alike (Ok p) (Err f) = ⊥
+Alike (Err f) (Ok p) = ⊥
+Alike (Err f) (Err g) = f ≡ g
+
+-- the answer of a call is this one, unless memory fails
+abbrev pub AlikeUnless : Result Program SourceFault → Result Program SourceFault → Type 0
+AlikeUnless (Ok p) answer = Alike (Ok p) answer
+AlikeUnless (Err f) answer = f ≢ NoMemory → Alike (Err f) answer
+
+-- each text is a program or has a fault
+abbrev pub EachTextHasOne : Type 0
+EachTextHasOne = (src : Bytes) → (answer : Result Program SourceFault) × Means src answer
+
+-- and not both, and no two programs, and no two faults
+abbrev pub EachTextHasNoMore : Type 0
+EachTextHasNoMore = (src : Bytes) (a b : Result Program SourceFault) → Means src a → Means src b → Alike a b
+
+-- ---- the same as a function
+
+abbrev pub with_fault : {A E F : Type 0} → (E → F) → Result A E → Result A F
+with_fault g (Ok x) = Ok x
+with_fault g (Err e) = Err (g e)
+
+-- the parse tree of a text, or its fault
+abbrev pub tree_of : Bytes → Result ProgramTree SourceFault
+tree_of src = bind (with_fault of_tokens (lex src)) (λ found. with_fault of_tree (grammar.parsed (symbols_of src found) (place_of src (length src))))
+
+-- the content of the program of a text, or its fault
+abbrev pub content_at : Bytes → Result Content SourceFault
+content_at src = bind (tree_of src) (checked src)
+
 -- a call answers what is wanted, unless memory fails
 abbrev pub GivesProgram : Result Program SourceFault → Result Content SourceFault → Type 0
 GivesProgram (Ok p) wanted = wanted ≡ Ok (content_of p)
 GivesProgram (Err f) wanted = f ≢ NoMemory → wanted ≡ Err f
-
--- the program that a text spells, apart from the proof that it keeps its rules
-abbrev pub Agrees : Result Program SourceFault → Result Program SourceFault → Type 0
-Agrees (Ok p) (Ok q) = content_of q ≡ content_of p
-Agrees (Ok p) (Err f) = ⊥
-Agrees (Err f) (Ok p) = f ≢ NoMemory → ⊥
-Agrees (Err f) (Err g) = f ≢ NoMemory → g ≡ f

@@ -14,7 +14,7 @@ mod tree;
 mod walk;
 
 pub use fault::SourceFault;
-pub use laws::{forms_are_right, rows_are_right, walks_are_sane};
+pub use laws::{forms_are_right, rows_are_right, texts_have_one_answer, walks_are_sane};
 pub use limits::EDGES;
 pub use normal::{AffineFault, affine};
 pub use pc_grammar::{Bound, COMPARISONS, Choice, Op};

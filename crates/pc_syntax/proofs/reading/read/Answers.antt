@@ -1,6 +1,8 @@
-use Rattle.pc_syntax.proofs.SymbolFits.{symbols_fit}
-use Rattle.pc_syntax.proofs.TreeFits.{derived_fits}
+use Rattle.pc_syntax.proofs.Readings.{gives_means, gives_only}
 use Rattle.pc_syntax.proofs.reading.read.Goals as goal
 
-pub walk_tree-requires : goal.walk_tree-requires
-walk_tree-requires c = ?
+pub returns-clause-meant : goal.returns-clause-meant
+returns-clause-meant c = gives_means c.args.src.now c.read_content.result c.read_content.ensures
+
+pub returns-clause-only : goal.returns-clause-only
+returns-clause-only c = gives_only c.args.src.now c.read_content.result c.read_content.ensures
