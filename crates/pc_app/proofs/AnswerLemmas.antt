@@ -1,13 +1,13 @@
 -- What follows from how a source, a file and words are answered.
-use Rattle.std.proofs.Common.{◌≡◌, ◌≢◌, ◌∙◌, sym, subst, ℕ, ◌<◌, ◌≤◌, List, [], ◌∷◌, length, codes, Option, arith, true, false, ◌⊎◌, inl, inr}
+use Rattle.std.proofs.Common.{◌≡◌, subst, ℕ, ◌<◌, ◌≤◌, List, length, Option, arith, ◌⊎◌, inl, inr}
 use Rattle.pc_ports.specs.Outside.{Holding, Untold, Nothing, Held, Appended}
 use Rattle.pc_text.specs.Bytes.{Bytes}
 use Rattle.pc_syntax.specs.declared.program.Program.{Program}
 use Rattle.pc_syntax.specs.Spelling.{Spells}
-use Rattle.pc_app.specs.declared.status.TheConstants.{DONE, USAGE, REFUSED, STORE_FAILED, SINK_FAILED, NO_MEMORY, TOO_LONG}
+use Rattle.pc_app.specs.declared.status.TheConstants.{DONE, USAGE, REFUSED, TOO_LONG}
 use Rattle.pc_app.specs.declared.limits.TheConstants.{SOURCE_BYTES}
 use Rattle.pc_app.specs.Words.{IsInfer, IsPlain}
-use Rattle.pc_app.specs.Answers.{Answers, FileAnswers, SourceAnswers, ProgramAnswers}
+use Rattle.pc_app.specs.Answers.{Answers, FileAnswers, SourceAnswers}
 use Rattle.pc_app.specs.Answers.Answers.{Unknown, Infer}
 use Rattle.pc_app.specs.Answers.SourceAnswers.{TooLong, Faulty, Spelled}
 use Rattle.pc_app.specs.Answers.ProgramAnswers.{NoLine, Condition}
@@ -48,7 +48,8 @@ source_is_exact bytes status text old new (Spelled short p spells (NoLine other 
 source_is_exact bytes status text old new (Spelled short p spells (Condition condition inferred s t)) written done =
     record {
       suffices = record { program = p; spelled = spells; condition = condition; small = inferred.small; printed = subst (λ (z : Bytes). Appended old new z) t written; safe = inferred.sound };
-      needed = inferred.exact }
+      needed = inferred.exact;
+    }
 
 -- a source that is short enough is done or refused
 pub source_is_complete : (bytes : Bytes) (status : ℕ) (text : Bytes) → SourceAnswers bytes status text → length bytes ≤ SOURCE_BYTES → IsComplete bytes status

@@ -5,3 +5,8 @@ pub mod CommandLemmas
 pub mod TextLemmas
 pub mod AnswerLemmas
 pub mod EndLemmas
+pub mod NeedLemmas
+pub mod StmtLemmas
+pub mod SaneLemmas
+pub mod TameLemmas
+pub mod InferLemmas

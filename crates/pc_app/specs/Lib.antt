@@ -6,3 +6,5 @@ pub mod Inferred
 pub mod Answers
 pub mod Silences
 pub mod Promises
+pub mod Ready
+pub mod Needed

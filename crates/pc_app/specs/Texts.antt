@@ -1,5 +1,5 @@
 -- The lines that tell what kept a command from its output.
-use Rattle.std.specs.Prelude.{◌≡◌, ◌++◌, ℤ, pos, codes}
+use Rattle.std.specs.Prelude.{◌++◌, ℤ, pos, codes}
 use Rattle.pc_text.specs.declared.place.Place.{Place}
 use Rattle.pc_text.specs.Numerals.{numeral}
 use Rattle.pc_text.specs.Bytes.{Bytes}

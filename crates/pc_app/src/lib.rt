@@ -2,8 +2,10 @@
 #![tactic(auto)]
 
 mod answer;
+mod comparison;
 mod limits;
 mod line;
+mod need;
 mod refusal;
 mod service;
 mod status;

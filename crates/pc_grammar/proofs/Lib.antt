@@ -1,4 +1,4 @@
-pub mod Laws
+pub mod Combinators
 pub mod Series
 pub mod Sets
 pub mod Expressions
