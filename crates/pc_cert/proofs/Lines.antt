@@ -1,15 +1,15 @@
 -- The text of a condition determines its rows.
-use Rattle.std.proofs.Common.{◌≡◌, ◌≢◌, ℕ, ◌≤◌, List, [], ◌∷◌, ◌++◌, drop, get_or, refl, sym, ap, ◌∙◌, append_assoc, arith}
+use Rattle.std.proofs.Common.{◌≡◌, ℕ, ◌≤◌, List, [], ◌∷◌, ◌++◌, drop, get_or, refl, sym, ap, ◌∙◌, append_assoc, arith}
 use Rattle.std.specs.Prelude.{All, codes}
 use Rattle.std.specs.List.{AllByRecursion, flat_map}
 use Rattle.std.proofs.lemmas.List.{append_cancel_right, append-nil}
 use Rattle.std.proofs.lemmas.List.Elements.{All-head, All-tail}
 use Rattle.pc_rows.specs.Linear.{Linear}
 use Rattle.pc_text.specs.Bytes.{Bytes}
-use Rattle.pc_cert.specs.Conditions.{terms, sum_text, row_text, rows_text, line_text, condition_text}
+use Rattle.pc_cert.specs.Conditions.{terms, sum_text, row_text, rows_text, line_text}
 use Rattle.pc_cert.specs.Law.{AreNames, IsOver, AreOver, TextDeterminesCondition}
 use Rattle.pc_cert.proofs.Splits.{Stops, same_cut, each-append, each_weaker}
-use Rattle.pc_cert.proofs.Parts.{IsSumByte, is_sum_byte, are_sum_bytes, AreParts, sum_text_bytes, same_sum}
+use Rattle.pc_cert.proofs.Parts.{IsSumByte, is_sum_byte, are_sum_bytes, sum_text_bytes, same_sum}
 use Rattle.pc_cert.proofs.Rows.{parts, parts_text, parts_are_parts, same_parts}
 
 sum_of : List Bytes → Linear → Bytes

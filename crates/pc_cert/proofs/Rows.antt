@@ -1,18 +1,15 @@
 -- The parts of a row determine the row.
-use Rattle.std.proofs.Common.{◌≡◌, ◌≢◌, ◌⊎◌, inl, inr, ℕ, zero, suc, ◌<◌, ◌≤◌, Bool, true, false, cond, not, ◌&&◌, eqb, List, [], ◌∷◌, ◌++◌, length, get_or, drop, refl, sym, ap, ◌∙◌, append_assoc, arith, ℤ, pos, negsuc}
-use Rattle.std.specs.Prelude.{All, codes, unsigned_abs}
+use Rattle.std.proofs.Common.{◌≡◌, ◌≢◌, ◌⊎◌, inl, inr, ℕ, suc, ◌≤◌, Bool, true, false, cond, ◌&&◌, List, [], ◌∷◌, ◌++◌, length, get_or, refl, sym, ap, ◌∙◌, arith, ℤ, pos, negsuc}
+use Rattle.std.specs.Prelude.{All, unsigned_abs}
 use Rattle.std.specs.List.{AllByRecursion, AllPairs}
 use Rattle.std.proofs.lemmas.List.Elements.{All-head, All-tail}
 use Rattle.std.proofs.lemmas.List.{append-nil}
-use Rattle.std.proofs.lemmas.Bool.{eqb-true, cond_both}
+use Rattle.std.proofs.lemmas.Bool.{eqb-true}
 use Rattle.pc_rows.specs.Linear.{Linear, is_zero}
-use Rattle.pc_text.specs.Numerals.{numeral}
 use Rattle.pc_text.specs.Bytes.{Bytes}
-use Rattle.pc_cert.specs.Conditions.{Part, is_negative, times_name, term, constant_part, terms, part_text, sum_text, is_empty, constant_text}
+use Rattle.pc_cert.specs.Conditions.{Part, term, constant_part, terms, part_text, sum_text, is_empty, constant_text}
 use Rattle.pc_cert.specs.Law.{AreNames, IsOver}
 use Rattle.pc_cert.proofs.Names.{StandsAlone, all_stand_alone, all_differ}
-use Rattle.pc_cert.proofs.Splits.{Stops, Begins, same_cut, each-append, each_weaker, begins-append, begins_weaker}
-use Rattle.pc_cert.proofs.Decimals.{decimal, decimal_digits, decimal_begins, decimal_injective}
 use Rattle.pc_cert.proofs.Sums.{sum_text-push}
 use Rattle.pc_cert.proofs.Terms.{no_times, same_term, same_constant, term_is_part, constant_is_part}
 use Rattle.pc_cert.proofs.Parts.{IsPart, AreParts}

@@ -1,18 +1,15 @@
 -- A term determines its number and its name.
-use Rattle.std.proofs.Common.{◌≡◌, ◌≢◌, ◌⊎◌, inl, inr, ℕ, zero, suc, ◌<◌, ◌≤◌, Bool, true, false, cond, eqb, List, [], ◌∷◌, ◌++◌, length, get_or, drop, refl, sym, ap, ◌∙◌, append_assoc, arith, ℤ, pos, negsuc}
-use Rattle.std.specs.Prelude.{All, codes, unsigned_abs}
-use Rattle.std.specs.List.{AllByRecursion, AllPairs}
-use Rattle.std.proofs.lemmas.List.Elements.{All-head, All-tail}
+use Rattle.std.proofs.Common.{◌≡◌, ℕ, ◌≤◌, Bool, true, false, cond, eqb, [], ◌∷◌, ◌++◌, drop, refl, sym, ap, ◌∙◌, append_assoc, arith, ℤ, pos, negsuc}
+use Rattle.std.specs.Prelude.{codes, unsigned_abs}
+use Rattle.std.specs.List.{AllByRecursion}
 use Rattle.std.proofs.lemmas.List.{append-nil}
 use Rattle.std.proofs.lemmas.Bool.{eqb-true, cond_both}
-use Rattle.pc_rows.specs.Linear.{Linear, is_zero}
-use Rattle.pc_text.specs.Numerals.{numeral}
 use Rattle.pc_text.specs.Bytes.{Bytes}
 use Rattle.pc_cert.specs.Conditions.{Part, is_negative, times_name, term, constant_part}
 use Rattle.pc_cert.proofs.Names.{IsPartByte, StandsAlone}
 use Rattle.pc_cert.proofs.Splits.{Stops, Begins, same_cut, each-append, each_weaker, begins-append, begins_weaker}
 use Rattle.pc_cert.proofs.Decimals.{IsDigit, decimal, decimal_digits, decimal_begins, decimal_injective}
-use Rattle.pc_cert.proofs.Parts.{IsPart, AreParts}
+use Rattle.pc_cert.proofs.Parts.{IsPart}
 
 decimal_bytes : (n : ℕ) → AllByRecursion IsPartByte (decimal n)
 decimal_bytes n = each_weaker IsDigit IsPartByte (λ b h. (omega (arith, h.0), λ e. absurd (omega (arith, h.1)))) (decimal n) (decimal_digits n)

@@ -91,4 +91,3 @@ joined_chain P a w ((x, None), e, (u, v, s, ((y, ys), q, (u1, u2, d, l, k)), m))
     ((y, (ys, None)), e ∙ ap (λ z. right_of (z, None)) q, (u1, u2 ++ v, s ∙ ap (λ z. z ++ v) d ∙ append_assoc u1 u2 v, l, put_on P ys None u2 v k m))
 joined_chain P a w ((x, Some (t, c)), e, (u, v, s, ((y, ys), q, (u1, u2, d, l, k)), m)) =
     ((y, (ys, Some c)), e ∙ ap (λ z. right_of (z, Some (t, c))) q, (u1, u2 ++ v, s ∙ ap (λ z. z ++ v) d ∙ append_assoc u1 u2 v, l, put_on P ys (Some c) u2 v k (t, m)))
-

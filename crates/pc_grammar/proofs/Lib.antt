@@ -1,4 +1,4 @@
-pub mod Laws
+pub mod Combinators
 pub mod Series
 pub mod Sets
 pub mod Expressions
@@ -8,3 +8,10 @@ pub mod Statements
 pub mod Programs
 pub mod Loops
 pub mod Turns
+pub mod Counting
+pub mod Depths
+pub mod Whole
+pub mod Scans
+pub mod Sound
+pub mod Unique
+pub mod Spans

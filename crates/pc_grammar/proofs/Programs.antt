@@ -1,17 +1,17 @@
 -- The laws of programs.
-use Rattle.std.proofs.Common.{◌≡◌, ℕ, suc, List, [], ◌∷◌, ◌++◌, Option, Some, None, refl, append_assoc}
+use Rattle.std.proofs.Common.{ℕ, suc, List, [], ◌∷◌, ◌++◌, refl, append_assoc}
 use Rattle.pc_grammar.specs.declared.symbol.Symbol.{Symbol}
 use Rattle.pc_grammar.specs.declared.symbol.Terminal.{Terminal}
 use Rattle.pc_grammar.specs.declared.symbol.Terminal.TheVariants as terminal
 use Rattle.pc_grammar.specs.declared.tree.StmtTree.{StmtTree}
-use Rattle.pc_grammar.specs.Combinators.{Text, Parser, Lang, none, both, is_both, map_parser, is_map, maybe, is_maybe, many, is_many}
+use Rattle.pc_grammar.specs.Combinators.{Text, none, both, is_both}
 use Rattle.pc_grammar.specs.Terminals.{among, the, one, is_one}
-use Rattle.pc_grammar.specs.Statements.{begins_stmt, enclosed, is_enclosed, separated, is_separated, stmts, is_stmts, is_block}
+use Rattle.pc_grammar.specs.Statements.{begins_stmt, is_stmts, is_block}
 use Rattle.pc_grammar.specs.Expressions.{is_paren}
 use Rattle.pc_grammar.specs.Programs.{given, var_names, flat, program_of, names, params, var_line, locals, program, is_names, is_params, is_var_line, is_locals, is_program}
-use Rattle.pc_grammar.proofs.Laws.{Laws, Begins, Ends, map_laws, both_laws, maybe_laws, many_laws, begins_more}
+use Rattle.pc_grammar.proofs.Combinators.{Laws, Begins, Ends, map_laws, both_laws, maybe_laws, many_laws}
 use Rattle.pc_grammar.proofs.Sets.{parted, parts, fewer, none_ends, one_begins, map_begins, both_begins, many_parts}
-use Rattle.pc_grammar.proofs.Expressions.{any_of, only, then_laws, closed_laws, one_laws, paren_laws, paren_begins}
+use Rattle.pc_grammar.proofs.Expressions.{only, then_laws, closed_laws, one_laws}
 use Rattle.pc_grammar.proofs.Statements.{item_laws, separated_laws, enclosed_laws, after_stmts, stmts_at_laws, stmt_begins}
 
 -- a name and then a comma may go on, and no other list of names may

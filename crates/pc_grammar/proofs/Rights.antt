@@ -1,17 +1,15 @@
 -- The laws of choices and right sides.
-use Rattle.std.proofs.Common.{◌≡◌, List, [], ◌∷◌, ◌++◌, Option, Some, None, refl}
+use Rattle.std.proofs.Common.{refl}
 use Rattle.pc_grammar.specs.declared.symbol.Symbol.{Symbol}
-use Rattle.pc_grammar.specs.declared.symbol.Terminal.{Terminal}
 use Rattle.pc_grammar.specs.declared.symbol.Terminal.TheVariants as terminal
 use Rattle.pc_grammar.specs.declared.tree.ExprTree.{ExprTree}
 use Rattle.pc_grammar.specs.declared.tree.Choice.{Choice}
 use Rattle.pc_grammar.specs.declared.tree.RightTree.{RightTree}
-use Rattle.pc_grammar.specs.declared.tree.Bound.{Bound}
-use Rattle.pc_grammar.specs.Combinators.{Text, Parser, Lang, none, both, is_both, map_parser, is_map, either, is_either, maybe, is_maybe, Part, More, Last, series, is_series}
-use Rattle.pc_grammar.specs.Terminals.{among, the, one, is_one}
-use Rattle.pc_grammar.specs.Expressions.{signs, addend, is_addend, is_expr_in}
-use Rattle.pc_grammar.specs.Rights.{bound_of, choice_of, alone, right_of, bound, choice, is_bound, is_choice, is_right, more, more_or_last, joined, last_or_more, part, right}
-use Rattle.pc_grammar.proofs.Laws.{Laws, Begins, Ends, map_laws, both_laws, either_laws, maybe_laws, alike_laws}
+use Rattle.pc_grammar.specs.Combinators.{Text, Parser, Lang, none, both, map_parser, Part, More, Last, series}
+use Rattle.pc_grammar.specs.Terminals.{among, the}
+use Rattle.pc_grammar.specs.Expressions.{signs, addend}
+use Rattle.pc_grammar.specs.Rights.{bound_of, choice_of, alone, bound, choice, is_bound, is_choice, is_right, more, more_or_last, joined, last_or_more, part, right}
+use Rattle.pc_grammar.proofs.Combinators.{Laws, Begins, map_laws, both_laws, either_laws, maybe_laws, alike_laws}
 use Rattle.pc_grammar.proofs.Series.{series_laws, series_opens}
 use Rattle.pc_grammar.proofs.Sets.{parted, parts, fewer, none_ends, one_begins, map_begins, both_begins, either_begins}
 use Rattle.pc_grammar.proofs.Expressions.{only, after_addend, after_expr, begins_expr, Opens, then_laws, closed_laws, one_laws, addend_begins, expr_begins, addend_laws}

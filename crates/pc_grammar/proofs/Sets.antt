@@ -1,10 +1,10 @@
 -- Classes of symbols as lists of terminals: what is apart and what is within, by computation; and with what the words of a language begin.
-use Rattle.std.proofs.Common.{◌≡◌, ℕ, Bool, true, false, not, ◌&&◌, ◌||◌, nat_eq, cond, List, [], ◌∷◌, ◌++◌, Option, Some, None, refl, sym, ap, ◌∙◌, subst, ◌⊎◌, inl, inr, arith, eqb→eq, T}
+use Rattle.std.proofs.Common.{◌≡◌, Bool, true, false, not, ◌&&◌, ◌||◌, nat_eq, List, [], ◌∷◌, ◌++◌, Option, Some, None, refl, sym, ap, ◌∙◌, subst, ◌⊎◌, inl, inr, eqb→eq, T}
 use Rattle.pc_grammar.specs.declared.symbol.Symbol.{Symbol}
 use Rattle.pc_grammar.specs.declared.symbol.Terminal.{Terminal}
-use Rattle.pc_grammar.specs.Combinators.{Text, Lang, Class, starts, none, is_token, is_map, is_both, is_either, is_maybe, is_many}
-use Rattle.pc_grammar.specs.Terminals.{code, has, among, the, is_one_of, is_one}
-use Rattle.pc_grammar.proofs.Laws.{Ends, Begins, begins_more, append-nil}
+use Rattle.pc_grammar.specs.Combinators.{Text, Lang, Class, none, is_map, is_both, is_either, is_maybe, is_many}
+use Rattle.pc_grammar.specs.Terminals.{code, has, among, is_one_of}
+use Rattle.pc_grammar.proofs.Combinators.{Ends, Begins, begins_more}
 
 abbrev pub apart : List Terminal → List Terminal → Bool
 apart [] js = true

@@ -1,18 +1,17 @@
 -- The laws of tests, statements and blocks.
-use Rattle.std.proofs.Common.{◌≡◌, ℕ, zero, suc, true, List, [], ◌∷◌, ◌++◌, Option, Some, None, refl}
+use Rattle.std.proofs.Common.{◌≡◌, ℕ, zero, suc, true, List, [], ◌∷◌, refl}
 use Rattle.pc_grammar.specs.declared.symbol.Symbol.{Symbol}
 use Rattle.pc_grammar.specs.declared.symbol.Terminal.{Terminal}
 use Rattle.pc_grammar.specs.declared.symbol.Terminal.TheVariants as terminal
 use Rattle.pc_grammar.specs.declared.tree.ExprTree.{ExprTree}
 use Rattle.pc_grammar.specs.declared.tree.CompareTree.{CompareTree}
-use Rattle.pc_grammar.specs.declared.tree.TestTree.{TestTree}
 use Rattle.pc_grammar.specs.declared.tree.StmtTree.{StmtTree}
-use Rattle.pc_grammar.specs.Combinators.{Text, Parser, Lang, none, both, is_both, map_parser, is_map, either, is_either, maybe, is_maybe, many, is_many}
+use Rattle.pc_grammar.specs.Combinators.{Text, Parser, Lang, none, both, is_both, is_either}
 use Rattle.pc_grammar.specs.Terminals.{among, the, one, is_one, one_of, is_one_of}
-use Rattle.pc_grammar.specs.Expressions.{inner, expr_in, is_expr_in, paren, is_paren}
+use Rattle.pc_grammar.specs.Expressions.{inner, is_expr_in}
 use Rattle.pc_grammar.specs.Statements.{operators, begins_stmt, all_items, separated, is_separated, optional, after, is_after, enclosed, is_enclosed, compare_of, any, holds, set_of, if_of, while_of, assert_of, assume_of, compare, all, test, set_stmt, assert_stmt, assume_stmt, if_stmt, while_stmt, stmt, stmts_in, block_in, block, is_compare, is_all, is_test, is_set_stmt, is_assert_stmt, is_assume_stmt, is_if_stmt, is_while_stmt, is_stmt, is_stmts_in, is_block_in, is_block, stmts, is_stmts}
-use Rattle.pc_grammar.proofs.Laws.{Laws, Begins, Ends, token_laws, map_laws, both_laws, either_laws, maybe_laws, many_laws, shut_laws, alike_laws}
-use Rattle.pc_grammar.proofs.Sets.{apart, within, parted, parts, wider, fewer, none_ends, one_begins, map_begins, both_begins, either_begins, many_parts}
+use Rattle.pc_grammar.proofs.Combinators.{Laws, Begins, token_laws, map_laws, both_laws, either_laws, maybe_laws, many_laws, shut_laws}
+use Rattle.pc_grammar.proofs.Sets.{apart, within, parted, parts, fewer, none_ends, one_begins, map_begins, both_begins, either_begins, many_parts}
 use Rattle.pc_grammar.proofs.Expressions.{any_of, only, after_expr, begins_expr, Opens, then_laws, closed_laws, one_laws, expr_begins, expr_laws, paren_laws, paren_begins}
 use Rattle.pc_grammar.proofs.Rights.{right_laws}
 
@@ -81,7 +80,7 @@ module _ (P P' : Lang ExprTree) (p p' : Parser ExprTree) (laws : Laws none P P' 
   enclosed_test_laws : Laws none (is_enclosed (is_test P)) (is_enclosed (is_test P')) (enclosed (test p)) (enclosed (test p'))
   enclosed_test_laws = enclosed_laws after_all refl _ _ _ _ test_laws
 
--- ---- statements
+  -- ---- statements
 
   set_laws : Laws none (is_set_stmt P) (is_set_stmt P') (set_stmt p) (set_stmt p')
   set_laws = map_laws set_of _ _ _ _ _

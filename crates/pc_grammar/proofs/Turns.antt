@@ -1,7 +1,6 @@
 -- The loops of the descent, each with what it has gathered so far.
-use Rattle.std.proofs.Common.{◌≡◌, ℕ, zero, suc, ◌+◌, ◌≤◌, ◌<◌, ◌-◌, true, false, List, [], ◌∷◌, ◌++◌, length, Option, Some, None, refl, sym, ap, ◌∙◌, append_assoc, arith}
+use Rattle.std.proofs.Common.{◌≡◌, ℕ, zero, suc, ◌<◌, ◌-◌, true, false, List, [], ◌∷◌, ◌++◌, length, Some, None, refl, sym, ap, append_assoc, arith}
 use Rattle.pc_grammar.specs.declared.symbol.Symbol.{Symbol}
-use Rattle.pc_grammar.specs.declared.symbol.Terminal.{Terminal}
 use Rattle.pc_grammar.specs.declared.symbol.Terminal.TheVariants as terminal
 use Rattle.pc_grammar.specs.declared.tree.ExprTree.{ExprTree}
 use Rattle.pc_grammar.specs.declared.tree.StmtTree.{StmtTree}
@@ -11,10 +10,10 @@ use Rattle.pc_grammar.specs.declared.tree.RightTree.{RightTree}
 use Rattle.pc_grammar.specs.declared.right.Next.TheVariants as next_is
 use Rattle.pc_grammar.specs.Next.{next_of}
 use Rattle.pc_grammar.specs.Rights.{part, joined}
-use Rattle.pc_grammar.specs.Combinators.{Text, Parser, Out, Got, Stops, Fault, Syntax, starts, map_out, both, map_parser, many, Part, More, Last, series}
+use Rattle.pc_grammar.specs.Combinators.{Text, Parser, Out, Got, Stops, Fault, starts, map_out, both, Part, More, Last, series}
 use Rattle.pc_grammar.specs.Terminals.{among, the, one}
-use Rattle.pc_grammar.specs.Expressions.{signs, product, products, sum, sums, inner, star_factor, sign_addend, expr_in, paren_in, paren, is_paren}
-use Rattle.pc_grammar.specs.Statements.{begins_stmt, seconds, compare, stmt, stmts, block_in, block, is_block}
+use Rattle.pc_grammar.specs.Expressions.{signs, product, products, sum, sums, star_factor, sign_addend, paren_in, paren, is_paren}
+use Rattle.pc_grammar.specs.Statements.{begins_stmt, seconds, compare, stmt, block_in, block, is_block}
 use Rattle.pc_grammar.specs.Programs.{flat, var_line}
 use Rattle.pc_grammar.proofs.Sets.{both_begins, one_begins}
 use Rattle.pc_grammar.proofs.Loops.{progress_of, gathered, gathered_got, map_twice, series_stop, series_refused, series_ended, series_got}

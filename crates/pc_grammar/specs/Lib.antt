@@ -6,3 +6,7 @@ pub mod Statements
 pub mod Programs
 pub mod Reads
 pub mod Next
+pub mod Limits
+pub mod Parsing
+pub mod Symbols
+pub mod Laws

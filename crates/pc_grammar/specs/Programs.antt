@@ -7,7 +7,6 @@ use Rattle.pc_grammar.specs.declared.tree.StmtTree.{StmtTree}
 use Rattle.pc_grammar.specs.declared.tree.ProgramTree.{ProgramTree}
 use Rattle.pc_grammar.specs.Combinators.{Text, Parser, Lang, both, is_both, map_parser, is_map, maybe, is_maybe, many, is_many}
 use Rattle.pc_grammar.specs.Terminals.{the, one, is_one}
-use Rattle.pc_grammar.specs.Expressions.{inner}
 use Rattle.pc_grammar.specs.Statements.{separated, is_separated, enclosed, is_enclosed, stmts, is_stmts}
 
 -- ---- the trees

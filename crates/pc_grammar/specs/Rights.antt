@@ -1,7 +1,7 @@
 -- Right sides of assignments, as parsers and as languages:
 --   right = choice | expr [ "+" choice ]    choice = "[" bound "," bound "]"    bound = [ "-" ] number
 -- The parser takes addends until a choice, since a "+" alone does not tell which of the two follows.
-use Rattle.std.specs.Prelude.{List, [], ◌∷◌, Option, Some, None, ℤ, pos, negsuc, neg_ℤ}
+use Rattle.std.specs.Prelude.{List, Option, Some, None, ℤ, pos, negsuc, neg_ℤ}
 use Rattle.pc_grammar.specs.declared.symbol.Symbol.{Symbol}
 use Rattle.pc_grammar.specs.declared.symbol.Terminal.TheVariants as terminal
 use Rattle.pc_grammar.specs.declared.tree.ExprTree.{ExprTree}
@@ -10,9 +10,9 @@ use Rattle.pc_grammar.specs.declared.tree.Bound.{Bound}
 use Rattle.pc_grammar.specs.declared.tree.Bound.TheVariants as bound_is
 use Rattle.pc_grammar.specs.declared.tree.Choice.{Choice}
 use Rattle.pc_grammar.specs.declared.tree.RightTree.{RightTree}
-use Rattle.pc_grammar.specs.Combinators.{Parser, Lang, both, is_both, map_parser, is_map, either, is_either, maybe, is_maybe, Part, More, Last, series, is_series}
+use Rattle.pc_grammar.specs.Combinators.{Parser, Lang, both, is_both, map_parser, is_map, either, is_either, maybe, is_maybe, Part, More, Last, series}
 use Rattle.pc_grammar.specs.Terminals.{among, the, one, is_one}
-use Rattle.pc_grammar.specs.Expressions.{signs, sums, addend, expr_in, is_expr_in}
+use Rattle.pc_grammar.specs.Expressions.{signs, sums, addend, is_expr_in}
 
 -- ---- the trees
 

@@ -84,7 +84,11 @@ pub fn enclosed_test(alloc: Global, cursor: &mut Cursor<'_>, depth: usize) -> Re
 }
 
 /// A conjunction in parentheses.
-pub fn enclosed_all(alloc: Global, cursor: &mut Cursor<'_>, depth: usize) -> Result<Items<CompareTree>, Stop>
+pub fn enclosed_all(
+    alloc: Global,
+    cursor: &mut Cursor<'_>,
+    depth: usize,
+) -> Result<Items<CompareTree>, Stop>
     requires { length cursor.old.rest.now < depth }
     ensures reads { Reads (spec.enclosed (spec.all (paren depth)) cursor.old.rest.now) result cursor.new.rest.now }
     ensures shrinks { length cursor.new.rest.now ≤ length cursor.old.rest.now }
@@ -96,7 +100,11 @@ pub fn enclosed_all(alloc: Global, cursor: &mut Cursor<'_>, depth: usize) -> Res
 }
 
 /// The comparisons that are tried, none where `try` is missing.
-pub fn tried(alloc: Global, cursor: &mut Cursor<'_>, depth: usize) -> Result<Items<CompareTree>, Stop>
+pub fn tried(
+    alloc: Global,
+    cursor: &mut Cursor<'_>,
+    depth: usize,
+) -> Result<Items<CompareTree>, Stop>
     requires { length cursor.old.rest.now < depth }
     ensures reads { Reads (spec.tried (paren depth) cursor.old.rest.now) result cursor.new.rest.now }
     ensures shrinks { length cursor.new.rest.now ≤ length cursor.old.rest.now }

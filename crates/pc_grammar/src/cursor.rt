@@ -175,7 +175,8 @@ fn is_first_of_stmt(terminal: Terminal) -> bool
     ensures { result ≡ has begins_stmt terminal }
 {
     match terminal {
-        Terminal::Name | Terminal::If | Terminal::While | Terminal::Assert | Terminal::Assume => true,
+        Terminal::Name | Terminal::If | Terminal::While | Terminal::Assert | Terminal::Assume =>
+            true,
         _ => false,
     }
 }

@@ -53,7 +53,11 @@ pub fn addend(alloc: Global, cursor: &mut Cursor<'_>, depth: usize) -> Result<Ex
     'factors: while cursor.sees(Terminal::Star) {
         let star = cursor.take(Terminal::Star)?;
         let x = factor(alloc, cursor, depth)?;
-        product = ExprTree::Mul(Boxed::new(alloc, product)?, Boxed::new(alloc, x)?, star.place);
+        product = ExprTree::Mul(
+            Boxed::new(alloc, product)?,
+            Boxed::new(alloc, x)?,
+            star.place,
+        );
     }
     Ok(product)
 }

@@ -4,11 +4,25 @@
 mod compare;
 mod cursor;
 mod expr;
+mod fault;
+mod laws;
+mod limits;
+mod parsing;
 mod program;
 mod right;
 mod stmt;
 mod symbol;
+mod terminals;
+#[cfg(test)]
+mod tests;
 mod tree;
 
+pub use fault::ParseFault;
+pub use laws::{grammar_is_unambiguous, symbols_have_one_answer};
+pub use limits::{BRACES, COMPARISONS, SIGNS};
+pub use parsing::parse;
 pub use symbol::{Symbol, Terminal};
-pub use tree::{Bound, Choice, CompareTree, ExprTree, Op, ProgramTree, RightTree, StmtTree, TestTree};
+pub use terminals::symbols;
+pub use tree::{
+    Bound, Choice, CompareTree, ExprTree, Op, ProgramTree, RightTree, StmtTree, TestTree,
+};

@@ -91,10 +91,18 @@ fn program(alloc: Global, cursor: &mut Cursor<'_>, depth: usize) -> Result<Progr
 }
 
 /// A program that takes all of the symbols.
-pub fn whole_program(alloc: Global, cursor: &mut Cursor<'_>, depth: usize) -> Result<ProgramTree, Stop>
+pub fn whole_program(
+    alloc: Global,
+    cursor: &mut Cursor<'_>,
+    depth: usize,
+) -> Result<ProgramTree, Stop>
     requires { length cursor.old.rest.now < depth }
     ensures { Reads (whole (spec.program depth cursor.old.rest.now)) result cursor.new.rest.now }
 {
     let tree = program(alloc, cursor, depth)?;
-    if cursor.rest.is_empty() { Ok(tree) } else { Err(Stop::Syntax) }
+    if cursor.rest.is_empty() {
+        Ok(tree)
+    } else {
+        Err(Stop::Syntax)
+    }
 }

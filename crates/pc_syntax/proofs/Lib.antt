@@ -1,9 +1,11 @@
 pub mod Results
 pub mod Exprs
 pub mod FormLemmas
+pub mod FitLemmas
 pub mod RowLemmas
 pub mod Trees
 pub mod Folds
 pub mod WalkedExprs
 pub mod WalkedTests
 pub mod WalkedStmts
+pub mod StepLemmas

@@ -18,7 +18,7 @@ use Rattle.pc_syntax.specs.declared.tree.Right.{Right}
 use Rattle.pc_syntax.specs.declared.tree.Stmt.{Stmt, Stmt-F, fold-Stmt}
 use Rattle.pc_syntax.specs.declared.tree.Stmt.TheOpen as stmt
 use Rattle.pc_text.specs.Named.{Named}
-use Rattle.pc_syntax.specs.Forms.{is_affine, is_unequal, rows_of, row_fits}
+use Rattle.pc_syntax.specs.Forms.{is_affine, is_unequal, has_rows, rows_of, row_fits}
 
 abbrev pub below_step : ℕ → Expr-F Bool → Bool
 below_step n (expr.Num z) = true
@@ -35,6 +35,10 @@ names_below n e = fold-Expr Bool (below_step n) e
 -- an expression has its normal form, and its names are declared
 abbrev pub sane_expr : ℕ → Expr → Bool
 sane_expr n e = is_affine e && names_below n e
+
+-- the sides of a comparison have their normal forms, and each of its rows and its negation are in range
+abbrev pub has_sane_rows : Compare → Bool
+has_sane_rows c = has_rows c && list_all row_fits (rows_of c)
 
 -- each row of a comparison and its negation are in range
 abbrev pub sane_compare : ℕ → Compare → Bool

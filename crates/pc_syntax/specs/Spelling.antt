@@ -1,10 +1,16 @@
 -- Which program a text spells, and the fault of a text that spells none.
-use Rattle.std.specs.Prelude.{◌≡◌, Ok, Err}
+use Rattle.std.specs.Prelude.{◌≡◌, ◌≢◌, Result, Ok, Err}
 use Rattle.pc_grammar.specs.declared.tree.ProgramTree.{ProgramTree}
 use Rattle.pc_syntax.specs.declared.program.Program.{Program}
 use Rattle.pc_syntax.specs.declared.fault.SourceFault.{SourceFault}
+use Rattle.pc_syntax.specs.declared.fault.SourceFault.TheVariants.{NoMemory}
 use Rattle.pc_text.specs.Bytes.{Bytes}
-use Rattle.pc_syntax.specs.Context.{checked, content_of}
+use Rattle.pc_syntax.specs.Context.{Content, checked, content_of}
+
+-- the program is the content that is wanted, unless memory fails
+abbrev pub GivesProgram : Result Program SourceFault → Result Content SourceFault → Type 0
+GivesProgram (Ok p) wanted = wanted ≡ Ok (content_of p)
+GivesProgram (Err f) wanted = f ≢ NoMemory → wanted ≡ Err f
 
 -- the parse tree of a text (stands in for the words of tokens and grammar until these are there: no text has one)
 abbrev pub IsParsed : Bytes → ProgramTree → Type 0

@@ -1,4 +1,6 @@
-use pc_text::Place;
+use crate::normal::AffineFault;
+use pc_text::{NoMemory, Place};
+use std::alloc::AllocError;
 
 /// Why a text is no program: the first rule that it breaks, and where.
 #[derive(Clone, Copy, Debug, PartialEq, Eq)]
@@ -34,4 +36,40 @@ pub enum SourceFault {
     /// The reader is not built yet.
     NotBuilt,
     NoMemory,
+}
+
+impl From<AllocError> for SourceFault {
+    ghost use Rattle.std.specs.Prelude.{◌≡◌};
+    ghost use Rattle.pc_syntax.specs.declared.fault.SourceFault.TheVariants.{NoMemory};
+
+    ghost from_gives = { λ _ f. f ≡ NoMemory };
+
+    fn from(_: AllocError) -> SourceFault {
+        SourceFault::NoMemory
+    }
+}
+
+impl From<NoMemory> for SourceFault {
+    ghost use Rattle.std.specs.Prelude.{◌≡◌};
+    ghost use Rattle.pc_syntax.specs.declared.fault.SourceFault.TheVariants.{NoMemory};
+
+    ghost from_gives = { λ _ f. f ≡ NoMemory };
+
+    fn from(_: NoMemory) -> SourceFault {
+        SourceFault::NoMemory
+    }
+}
+
+impl From<AffineFault> for SourceFault {
+    ghost use Rattle.std.specs.Prelude.{◌≡◌};
+    ghost use Rattle.pc_syntax.specs.Faults.{source_fault};
+
+    ghost from_gives = { λ e f. f ≡ source_fault e };
+
+    fn from(e: AffineFault) -> SourceFault {
+        match e {
+            AffineFault::NotAffine(place) => SourceFault::NotAffine(place),
+            AffineFault::Past(place) => SourceFault::FormPast(place),
+        }
+    }
 }

@@ -7,6 +7,7 @@ mod limits;
 mod normal;
 mod program;
 mod reading;
+mod rows;
 mod tree;
 mod walk;
 
@@ -18,4 +19,5 @@ pub use pc_grammar::{Bound, Choice, Op};
 pub use pc_text::Names;
 pub use program::Program;
 pub use reading::read;
+pub use rows::{form_of, rows_of};
 pub use tree::{Compare, Compares, Expr, Right, Stmt, Stmts, Test};

@@ -6,7 +6,7 @@ use Rattle.pc_text.specs.declared.lexeme.Form.TheVariants as form
 use Rattle.pc_text.specs.declared.lexeme.Class.{Class}
 use Rattle.pc_text.specs.declared.lexeme.Class.TheVariants.{Blank, Slash, Letter, Digit, Alone, MayEqual, Bang, Ampersand, Other}
 use Rattle.pc_text.specs.Bytes.{Bytes}
-use Rattle.pc_text.specs.Lexemes.{class, in_word, in_number, in_comment, EachPasses, IsPair, HasForm, Lexeme, IsLongest, LedByNone}
+use Rattle.pc_text.specs.Lexemes.{class, in_word, in_number, in_line, EachPasses, IsPair, HasForm, Lexeme, IsLongest, LedByNone}
 use Rattle.pc_text.specs.Longest.{run, pair_or, comment_if, longest_by, longest}
 
 -- the front is at least so long
@@ -47,7 +47,7 @@ pub bounds : (f : Form) (v s : Bytes) → HasForm f v → AtLeast (length v) (lo
 bounds f [] s h = absurd h
 bounds form.Blank (b ∷ w) s h = rw (h.0, h.1) (omega arith)
 bounds form.Comment (b ∷ []) s h = absurd h
-bounds form.Comment (b ∷ c ∷ w) s h = let i = run_all in_comment w s h.2 in rw (h.0, h.1) (omega arith)
+bounds form.Comment (b ∷ c ∷ w) s h = let i = run_all in_line w s h.2 in rw (h.0, h.1) (omega arith)
 bounds form.Word (b ∷ w) s h = let i = run_all in_word w s h.1 in rw h.0 (omega arith)
 bounds form.Number (b ∷ w) s h = let i = run_all in_number w s h.1 in rw h.0 (omega arith)
 bounds form.Sign (b ∷ []) s (inl h) = rw h (omega arith)
@@ -74,7 +74,7 @@ pair_found b d (c ∷ r) o h q = by (nat_eq c d) refl
     by false e = h
 
 comment_found : (b c : ℕ) (r : Bytes) (k : Class) → class b ≡ Slash → class c ≡ k → Found (b ∷ c ∷ r) (comment_if k r)
-comment_found b c r Slash h e = ((h, e, all_run in_comment r), omega arith, let w = run_within in_comment r in omega arith)
+comment_found b c r Slash h e = ((h, e, all_run in_line r), omega arith, let w = run_within in_line r in omega arith)
 comment_found b c r _ h e = tt
 
 found_by : (b : ℕ) (r : Bytes) (k : Class) → class b ≡ k → Found (b ∷ r) (longest_by k r)

@@ -51,9 +51,9 @@ in_word b = is_letter_or_digit (class b)
 abbrev pub in_number : ℕ → Bool
 in_number b = is_digit (class b)
 
--- the bytes of a comment behind its two slashes
-abbrev pub in_comment : ℕ → Bool
-in_comment b = not (is_line_feed b)
+-- the bytes of a line, and so of a comment behind its two slashes
+abbrev pub in_line : ℕ → Bool
+in_line b = not (is_line_feed b)
 
 -- each byte passes
 abbrev pub EachPasses : (ℕ → Bool) → Bytes → Type 0
@@ -75,7 +75,7 @@ abbrev pub HasForm : Form → Bytes → Type 0
 HasForm f [] = ⊥
 HasForm form.Blank (b ∷ w) = (class b ≡ Blank) × (w ≡ [])
 HasForm form.Comment (b ∷ []) = ⊥
-HasForm form.Comment (b ∷ c ∷ w) = (class b ≡ Slash) × (class c ≡ Slash) × EachPasses in_comment w
+HasForm form.Comment (b ∷ c ∷ w) = (class b ≡ Slash) × (class c ≡ Slash) × EachPasses in_line w
 HasForm form.Word (b ∷ w) = (class b ≡ Letter) × EachPasses in_word w
 HasForm form.Number (b ∷ w) = (class b ≡ Digit) × EachPasses in_number w
 HasForm form.Sign (b ∷ []) = IsSign (class b)

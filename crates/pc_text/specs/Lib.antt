@@ -2,7 +2,7 @@ pub mod Bytes
 pub mod Digits
 pub mod Places
 pub mod Lexemes
-pub mod Goers
+pub mod ByteSets
 pub mod Longest
 pub mod Lex
 pub mod Answers

@@ -5,7 +5,7 @@ use Rattle.pc_text.specs.declared.lexeme.Form.TheVariants as form
 use Rattle.pc_text.specs.declared.lexeme.Class.{Class}
 use Rattle.pc_text.specs.declared.lexeme.Class.TheVariants.{Blank, Slash, Letter, Digit, Alone, MayEqual, Bang, Ampersand, Other}
 use Rattle.pc_text.specs.Bytes.{Bytes}
-use Rattle.pc_text.specs.Lexemes.{class, in_word, in_number, in_comment}
+use Rattle.pc_text.specs.Lexemes.{class, in_word, in_number, in_line}
 
 -- how many bytes from the front on pass
 abbrev pub run : (ℕ → Bool) → Bytes → ℕ
@@ -22,7 +22,7 @@ pair_or d [] o = o
 pair_or d (b ∷ r) o = cond (nat_eq b d) (Some (form.Sign, 2)) o
 
 abbrev pub comment_if : Class → Bytes → Option (Form × ℕ)
-comment_if Slash r = Some (form.Comment, suc (suc (run in_comment r)))
+comment_if Slash r = Some (form.Comment, suc (suc (run in_line r)))
 comment_if _ r = None
 
 -- behind a first slash

@@ -4,7 +4,7 @@ ghost use Rattle.std.specs.Prelude.{◌≡◌, ◌≤◌, ◌<◌, length, IfSom
 ghost use Rattle.std.specs.Bool.{OnTrue};
 ghost use Rattle.pc_text.specs.Lexemes as spec;
 ghost use Rattle.pc_text.specs.Longest.{longest, run, begins_with};
-ghost use Rattle.pc_text.specs.Goers.{goes_on};
+ghost use Rattle.pc_text.specs.ByteSets.{contains};
 
 /// What a byte can do: each byte is of one class.
 #[derive(Clone, Copy)]
@@ -39,11 +39,14 @@ pub enum Form {
     Sign,
 }
 
-/// The bytes that go on with a lexeme of more than two bytes.
+/// A set of bytes.
 #[derive(Clone, Copy)]
-pub enum Goer {
-    Comment,
+pub enum ByteSet {
+    /// All but the line feed: what a line holds, and a comment behind its two slashes.
+    Line,
+    /// Letters, digits and `_`: what a word holds behind its first byte.
     Word,
+    /// Digits.
     Number,
 }
 
@@ -64,23 +67,23 @@ fn class_of(byte: u8) -> Class
     }
 }
 
-fn goes_on(goer: Goer, byte: u8) -> bool
-    ensures { result ≡ goes_on goer byte }
+fn contains(set: ByteSet, byte: u8) -> bool
+    ensures { result ≡ contains set byte }
 {
-    match goer {
-        Goer::Comment => byte != b'\n',
-        Goer::Word => matches!(class_of(byte), Class::Letter | Class::Digit),
-        Goer::Number => matches!(class_of(byte), Class::Digit),
+    match set {
+        ByteSet::Line => byte != b'\n',
+        ByteSet::Word => matches!(class_of(byte), Class::Letter | Class::Digit),
+        ByteSet::Number => matches!(class_of(byte), Class::Digit),
     }
 }
 
-/// How many bytes from the front go on.
-pub fn run(goer: Goer, src: &[u8]) -> usize
-    ensures value { result ≡ run (goes_on goer) src.now }
+/// How many bytes from the front on are in the set.
+pub fn run(set: ByteSet, src: &[u8]) -> usize
+    ensures value { result ≡ run (contains set) src.now }
     ensures within { result ≤ length src.now }
 {
     for (i, byte) in src.iter().enumerate() {
-        if !goes_on(goer, *byte) {
+        if !contains(set, *byte) {
             return i;
         }
     }
@@ -99,12 +102,12 @@ pub fn longest(src: &[u8]) -> Option<(Form, usize)>
             Class::Slash => match rest {
                 [next, text @ ..] if is_slash(*next) => Some((
                     Form::Comment,
-                    2 + run(Goer::Comment, text),
+                    2 + run(ByteSet::Line, text),
                 )),
                 _ => None,
             },
-            Class::Letter => Some((Form::Word, 1 + run(Goer::Word, rest))),
-            Class::Digit => Some((Form::Number, 1 + run(Goer::Number, rest))),
+            Class::Letter => Some((Form::Word, 1 + run(ByteSet::Word, rest))),
+            Class::Digit => Some((Form::Number, 1 + run(ByteSet::Number, rest))),
             Class::Alone => Some((Form::Sign, 1)),
             Class::MayEqual => {
                 if begins_with(rest, b'=') {

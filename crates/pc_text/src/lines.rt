@@ -3,7 +3,7 @@
 ghost use Rattle.std.specs.Prelude.{◌≡◌, ◌<◌, ◌≤◌, ◌+◌, ◌-◌, ◌^◌, [], length, MatchOption, IfSome};
 ghost use Rattle.pc_text.specs.Lines.{IsLine};
 
-use crate::lexeme::{Goer, run};
+use crate::lexeme::{ByteSet, run};
 use std::marker::Model;
 
 /// The lines of a text that were not read yet: contracts see the bytes that are left and the number
@@ -61,7 +61,7 @@ fn first_line(text: &[u8]) -> (&[u8], bool, &[u8])
     ensures line { IsLine text.now result.0.now result.1 result.2.now }
     ensures shorter { 0 < length text.now → length result.2.now < length text.now }
 {
-    let length = run(Goer::Comment, text);
+    let length = run(ByteSet::Line, text);
     if length < text.len() {
         (&text[..length], true, &text[length + 1..])
     } else {

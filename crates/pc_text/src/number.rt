@@ -5,7 +5,7 @@ ghost use Rattle.pc_text.specs.Bytes.{Bytes};
 ghost use Rattle.pc_text.specs.Digits.{natural_of};
 ghost use Rattle.pc_text.specs.Numerals as spec;
 
-use crate::lexeme::{Goer, run};
+use crate::lexeme::{ByteSet, run};
 use crate::token::LARGEST;
 
 /// The number that digits stand for, nothing where it is over [`LARGEST`].
@@ -91,7 +91,7 @@ fn positive_len(src: &[u8]) -> usize
     ensures within { result ≤ length src.now }
 {
     match src {
-        [b'1'..=b'9', rest @ ..] => 1 + run(Goer::Number, rest),
+        [b'1'..=b'9', rest @ ..] => 1 + run(ByteSet::Number, rest),
         _ => 0,
     }
 }

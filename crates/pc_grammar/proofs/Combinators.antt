@@ -1,8 +1,7 @@
 -- What holds of a parser and its language, at one depth of nesting and at the next.
-use Rattle.std.proofs.Common.{◌≡◌, ℕ, zero, suc, Bool, true, false, cond, List, [], ◌∷◌, ◌++◌, length, Option, Some, None, ◌⊎◌, inl, inr, refl, sym, ap, ◌∙◌, subst, append_assoc, arith, ◌≤◌, ◌<◌, ◌+◌, length-append}
-use Rattle.std.proofs.lemmas.List.{append_cancel_left}
+use Rattle.std.proofs.Common.{◌≡◌, ℕ, zero, suc, Bool, true, false, cond, List, [], ◌∷◌, ◌++◌, length, Option, Some, None, ◌⊎◌, inl, inr, refl, sym, ap, ◌∙◌, subst, append_assoc, arith, ◌≤◌, ◌<◌, length-append}
 use Rattle.pc_grammar.specs.declared.symbol.Symbol.{Symbol}
-use Rattle.pc_grammar.specs.Combinators.{Text, Fault, Syntax, Deep, Out, Got, Stops, Parser, Lang, Class, starts, token_if, token, is_token, and_then, map_out, both, is_both, map_parser, is_map, either, is_either, maybe, is_maybe, many_from, many, is_many, shut_if, shut, none, is_dead}
+use Rattle.pc_grammar.specs.Combinators.{Text, Fault, Syntax, Out, Got, Stops, Parser, Lang, Class, starts, token_if, token, is_token, and_then, map_out, both, is_both, map_parser, is_map, either, is_either, maybe, is_maybe, many_from, many, is_many, shut_if, shut, none, is_dead}
 
 -- the next symbol is the same, or there is none
 abbrev pub Same : Text → Text → Type 0
