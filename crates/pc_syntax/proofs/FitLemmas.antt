@@ -1,6 +1,6 @@
 -- Rows that are in range with their negations.
-use Rattle.std.proofs.Common.{◌≡◌, Bool, true, false, refl, sym, ◌∙◌, ap, Result, Ok, Err}
-use Rattle.std.specs.Prelude.{◌&&◌, is_ok, OkIff}
+use Rattle.std.proofs.Common.{◌≡◌, Bool, false, refl, sym, ◌∙◌, ap, Result, Ok, Err}
+use Rattle.std.specs.Prelude.{is_ok, OkIff}
 use Rattle.pc_rows.specs.Linear.{Linear, IsInRange, is_in_range, negation}
 use Rattle.pc_rows.specs.declared.number.Past.{Past}
 use Rattle.pc_rows.proofs.Ranges.{to_test, to_not_test}

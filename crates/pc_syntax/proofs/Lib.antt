@@ -9,3 +9,7 @@ pub mod WalkedExprs
 pub mod WalkedTests
 pub mod WalkedStmts
 pub mod StepLemmas
+pub mod SymbolFits
+pub mod Phrases
+pub mod TreeFits
+pub mod Readings

@@ -1,5 +1,5 @@
 -- The walk over an `if` and over a `while`, a step at a time, and over lists.
-use Rattle.std.proofs.Common.{◌≡◌, ℕ, zero, suc, ◌+◌, ◌<◌, ◌≤◌, refl, sym, ◌∙◌, ap, subst, arith, List, [], ◌∷◌, ◌++◌, append_assoc, length, get_or, drop, drop-cons, map, Bool, true, false, Result, Ok, Err, add-one}
+use Rattle.std.proofs.Common.{◌≡◌, ℕ, zero, suc, ◌+◌, ◌<◌, ◌≤◌, refl, sym, ◌∙◌, ap, arith, List, [], ◌∷◌, ◌++◌, append_assoc, length, get_or, drop, drop-cons, map, Bool, true, Result, Ok, Err, add-one}
 use Rattle.std.specs.Prelude.{◌≢◌, ◌&&◌}
 use Rattle.pc_text.specs.declared.place.Place.{Place}
 use Rattle.pc_text.specs.Bytes.{Bytes}
@@ -23,7 +23,6 @@ use Rattle.pc_syntax.specs.Trees as trees
 use Rattle.pc_syntax.specs.Walks.{counted_behind}
 use Rattle.pc_syntax.proofs.Results.{and_is}
 use Rattle.std.specs.Prelude.{IsErrAnd}
-use Rattle.std.proofs.lemmas.Result.{err_from_is_err_and}
 
 abbrev total : List ℕ → ℕ
 total [] = 0

@@ -4,8 +4,6 @@ use Rattle.pc_text.specs.declared.place.Place.{Place}
 use Rattle.pc_rows.specs.Linear.{Linear, sum_of, difference_of, scaled_by, of_constant, fits}
 use Rattle.pc_rows.specs.declared.row.TheConstants.{VARIABLES}
 use Rattle.pc_grammar.specs.declared.symbol.Symbol.{Symbol}
-use Rattle.pc_grammar.specs.declared.tree.Op.{Op}
-use Rattle.pc_grammar.specs.declared.tree.Op.TheVariants as op
 use Rattle.pc_grammar.specs.declared.tree.Choice.{Choice}
 use Rattle.pc_grammar.specs.declared.tree.ExprTree.{ExprTree, ExprTree-F, fold-ExprTree}
 use Rattle.pc_grammar.specs.declared.tree.ExprTree.TheOpen as expr

@@ -2,6 +2,10 @@
 use Rattle.std.specs.Prelude.{◌≡◌, ◌≢◌, List, Result, Ok, Err}
 use Rattle.pc_text.specs.Named.{Named}
 use Rattle.pc_text.specs.Bytes.{Bytes}
+use Rattle.pc_text.specs.declared.token.LexFault.{LexFault}
+use Rattle.pc_text.specs.declared.token.LexFault.TheVariants as lex
+use Rattle.pc_grammar.specs.declared.fault.ParseFault.{ParseFault}
+use Rattle.pc_grammar.specs.declared.fault.ParseFault.TheVariants as parse
 use Rattle.pc_syntax.specs.declared.normal.AffineFault.{AffineFault}
 use Rattle.pc_syntax.specs.declared.normal.AffineFault.TheVariants as affine
 use Rattle.pc_syntax.specs.declared.fault.SourceFault.{SourceFault}
@@ -11,6 +15,19 @@ use Rattle.pc_syntax.specs.declared.fault.SourceFault.TheVariants as fault
 abbrev pub source_fault : AffineFault → SourceFault
 source_fault (affine.NotAffine p) = fault.NotAffine p
 source_fault (affine.Past p) = fault.FormPast p
+
+-- a lexical fault, and a fault of the grammar
+abbrev pub of_tokens : LexFault → SourceFault
+of_tokens (lex.BadByte p b) = fault.BadByte p b
+of_tokens (lex.LiteralTooBig p) = fault.LiteralTooBig p
+of_tokens (lex.NameTooLong p) = fault.NameTooLong p
+of_tokens lex.NoMemory = fault.NoMemory
+
+abbrev pub of_tree : ParseFault → SourceFault
+of_tree (parse.Syntax p) = fault.Syntax p
+of_tree (parse.TooDeep p) = fault.TooDeep p
+of_tree (parse.TooLong p) = fault.TooLong p
+of_tree parse.NoMemory = fault.NoMemory
 
 -- a call answers what is wanted, unless memory fails
 abbrev pub Gives : {A : Type 0} → Result A SourceFault → Result A SourceFault → Type 0

@@ -1,4 +1,4 @@
-use Rattle.std.proofs.Common.{◌≡◌, ◌<◌, length, true, rules, arith, sym, ◌∙◌}
+use Rattle.std.proofs.Common.{◌≡◌, ◌<◌, length, true, arith}
 use Rattle.pc_syntax.specs.Trees.{fit_stmt, fit_stmts}
 use Rattle.pc_syntax.proofs.StepLemmas.{handed, weight, weights, then_smaller, else_smaller, body_smaller, item_smaller, then_fits, else_fits, tried_fits, body_fits, item_fits, then_fails, else_fails, if_done, body_fails, while_done, item_fails, item_done}
 use Rattle.pc_syntax.proofs.walk.stmts.+walk.Goals as goal
