@@ -49,8 +49,8 @@ below_product (negsuc c) d h g =
 pub refuted_is_not_shown : RefutedIsNotShown
 refuted_is_not_shown premises goal p q h g =
     let e = numerator-scaled p.goal (negation goal) q in
-    let a = product_not_negative p.goal (numerator (negation goal) q) h.goal_multiplier g.negation in
-    let b = with_parts_above premises (scaled_by p.goal (negation goal)) p.parts q h.multipliers g.premises in
+    let a = product_not_negative p.goal (numerator (negation goal) q) h.goal_multiplier g.meets_negation in
+    let b = with_parts_above premises (scaled_by p.goal (negation goal)) p.parts q h.multipliers g.meets_premises in
     let z = dot-zero (total premises goal p).coefficients q.numerators ((number_is_meant (total premises goal p)).1 h.left) in
     let c = below_product (total premises goal p).constant q.denominator h.below g.positive in
     omega (arith, ints)
@@ -76,7 +76,7 @@ shown_is_met premises goal p s h met = by_lt_z (value goal s) (pos 0)
     let n : pos 0 ≤ℤ value (negation goal) s = omega (arith, ints) in
     absurd (refuted_is_not_shown premises goal p (point_of s) h record {
       positive = le_refl_z (pos 1);
-      premises = all_meet premises s met;
-      negation = subst (λ z. pos 0 ≤ℤ z) (sym (numerator-state (negation goal) s)) n;
+      meets_premises = all_meet premises s met;
+      meets_negation = subst (λ z. pos 0 ≤ℤ z) (sym (numerator-state (negation goal) s)) n;
     }))
     (λ not_below. not_below)

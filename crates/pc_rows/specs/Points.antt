@@ -18,8 +18,8 @@ AllMeetAt p rows = AllByRecursion (MeetsAt p) rows
 -- the point meets the premises and the negation of the goal
 pub record Refutes (premises : List Linear) (goal : Linear) (p : Point) : Type 0 where
   pub positive : pos 1 ≤ℤ p.denominator
-  pub premises : AllMeetAt p premises
-  pub negation : MeetsAt p (negation goal)
+  pub meets_premises : AllMeetAt p premises
+  pub meets_negation : MeetsAt p (negation goal)
 
 -- the products by place, and their sums from the left
 abbrev pub SumsFit : ℤ → List ℤ → List ℤ → Type 0

@@ -39,6 +39,6 @@ PartsFit premises sum (p ∷ ps) =
 
 -- all that is computed for the total is in range
 pub record TotalFits (premises : List Linear) (goal : Linear) (p : Proof) : Type 0 where
-  pub negation : IsInRange (negation goal)
+  pub negated_goal : IsInRange (negation goal)
   pub product : IsInRange (scaled_by p.goal (negation goal))
   pub parts : PartsFit premises (scaled_by p.goal (negation goal)) p.parts

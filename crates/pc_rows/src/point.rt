@@ -55,12 +55,10 @@ impl Point {
 
     /// The same point over `k` times its denominator. `Past` exactly where one of its numbers is
     /// then not in range.
-    pub fn over_multiple(&self, k: i128) -> Result<Point, Past>
-        requires range { InRange k }
-        requires positive { pos 1 ≤ℤ k }
+    pub fn over_multiple(&self, k: Number) -> Result<Point, Past>
+        requires { pos 1 ≤ℤ k }
         ensures { OkIff result (AllInRange (over_multiple k self.now).numerators × InRange (over_multiple k self.now).denominator) (over_multiple k self.now) }
     {
-        let k = Number::new(k);
         let numerators = products(k, &self.numerators)?;
         let denominator = k.times(self.denominator)?;
         Ok(Point {
@@ -70,13 +68,13 @@ impl Point {
     }
 
     /// The point with `n` as its numerator at `v`.
-    pub fn with(&self, v: u32, n: i128) -> Point
-        requires variable { v < VARIABLES }
-        requires range { InRange n }
+    pub fn with(&self, v: u32, n: Number) -> Point
+        requires { v < VARIABLES }
         ensures { result ≡ with_numerator self.now v n }
     {
         let mut numerators = self.numerators;
-        numerators[v as usize] = Number::new(n);
+        numerators[v as usize] = n;
+        let _in_range = n.get();
         Point {
             numerators,
             denominator: self.denominator,
@@ -86,11 +84,10 @@ impl Point {
     /// The value of the row at this point, times the denominator. `Past` exactly where one of the
     /// products, the constant first and then the variables in order, or of their sums from the left
     /// is not in range.
-    pub fn value(&self, r: &Row) -> Result<i128, Past>
+    pub fn value(&self, r: &Row) -> Result<Number, Past>
         ensures { OkIff result (NumeratorFits r.now self.now) (numerator r.now self.now) }
     {
-        let sum = r.value_over(&self.numerators, self.denominator)?;
-        Ok(sum.get())
+        r.value_over(&self.numerators, self.denominator)
     }
 }
 
@@ -100,7 +97,7 @@ pub fn sign_at(r: &Row, p: &Point) -> Option<bool>
     ensures { SomeIff result (NumeratorFits r.now p.now) (int_le (pos 0) (numerator r.now p.now)) }
 {
     match p.value(r) {
-        Ok(value) => Some(0 <= value),
+        Ok(value) => Some(value.is_at_least_zero()),
         Err(Past) => None,
     }
 }

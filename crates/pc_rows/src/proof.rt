@@ -15,7 +15,7 @@ use std::marker::Model;
 #[derive(Clone, Copy, Debug, PartialEq, Eq)]
 pub struct Part {
     pub index: u32,
-    pub multiplier: i128,
+    pub multiplier: Number,
 }
 
 /// Premises with their multipliers: rising indices below `PREMISES`, and multipliers in range and
@@ -64,15 +64,15 @@ impl Parts {
     }
 
     /// Puts a part at the end. After a refusal the list is as before.
-    pub fn push(&mut self, index: u32, multiplier: i128) -> Result<(), NoMemory>
-        requires premise { index < PREMISES }
-        requires rising { IsAbove index self.old }
-        requires range { InRange multiplier }
-        requires not_zero { multiplier ≢ pos 0 }
-        ensures ok { OnOk result (self.new ≡ self.old ++ record { index = index; multiplier = multiplier } ∷ []) }
+    pub fn push(&mut self, part: Part) -> Result<(), NoMemory>
+        requires premise { part.index < PREMISES }
+        requires rising { IsAbove part.index self.old }
+        requires not_zero { part.multiplier ≢ pos 0 }
+        ensures ok { OnOk result (self.new ≡ self.old ++ part ∷ []) }
         ensures err { OnErr result (self.new ≡ self.old) }
     {
-        match self.parts.push(Part { index, multiplier }) {
+        let _in_range = part.multiplier.get();
+        match self.parts.push(part) {
             Ok(()) => Ok(()),
             Err(_) => Err(NoMemory),
         }
@@ -110,23 +110,20 @@ impl Model for Proof {
 }
 
 impl Proof {
-    pub fn new(goal: i128, parts: Parts) -> Proof
-        requires { InRange goal }
+    pub fn new(goal: Number, parts: Parts) -> Proof
         ensures { result ≡ record { goal = goal; parts = parts } }
     {
-        Proof {
-            goal: Number::new(goal),
-            parts,
-        }
+        Proof { goal, parts }
     }
 
     /// The multiplier of the negated goal.
-    pub fn goal(&self) -> i128
+    pub fn goal(&self) -> Number
         ensures value { result ≡ self.now.goal }
         ensures proof { IsProof self.now }
     {
+        let _in_range = self.goal.get();
         let _parts = self.parts.len();
-        self.goal.get()
+        self.goal
     }
 
     pub fn parts(&self) -> &Parts

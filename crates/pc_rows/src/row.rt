@@ -113,7 +113,13 @@ impl Row {
         requires { InRange k }
         ensures { OkIff result (IsInRange (scaled_by k self.now)) (scaled_by k self.now) }
     {
-        let k = Number::new(k);
+        self.times(Number::new(k))
+    }
+
+    /// `scaled` by a number that is known to be in range.
+    pub fn times(&self, k: Number) -> Result<Row, Past>
+        ensures { OkIff result (IsInRange (scaled_by k self.now)) (scaled_by k self.now) }
+    {
         let constant = k.times(self.constant)?;
         let coefficients = products(k, &self.coefficients)?;
         Ok(Row {
@@ -124,11 +130,10 @@ impl Row {
 
     /// The row plus `k` times `other`. `Past` exactly where a number of the multiple or of the sum
     /// is not in range.
-    pub fn plus_times(&self, k: i128, other: &Row) -> Result<Row, Past>
-        requires { InRange k }
+    pub fn plus_times(&self, k: Number, other: &Row) -> Result<Row, Past>
         ensures { OkIff result (IsInRange (scaled_by k other.now) × IsInRange (sum_of self.now (scaled_by k other.now))) (sum_of self.now (scaled_by k other.now)) }
     {
-        self.sum(&other.scaled(k)?)
+        self.sum(&other.times(k)?)
     }
 
     /// The row `-r - 1`, which is met exactly where the row `r` is not. `Past` exactly where one

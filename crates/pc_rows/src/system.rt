@@ -97,7 +97,7 @@ pub fn total(s: &System, p: &Proof) -> Result<Row, Past>
     requires { AllByRecursion (λ q. q.index < length s.now.premises) p.now.parts }
     ensures { OkIff result (TotalFits s.now.premises s.now.goal p.now) (total s.now.premises s.now.goal p.now) }
 {
-    let start = s.goal().negated()?.scaled(p.goal())?;
+    let start = s.goal().negated()?.times(p.goal())?;
     with_parts(s, start, p.parts())
 }
 
