@@ -7,6 +7,7 @@ ghost use Rattle.pc_rows.specs.Linear.{AllInRange, add_lists, scale_list, negate
 
 use crate::number::{Number, Past};
 
+/// The sums by place. `Past` exactly where one of them is not in range.
 pub fn sums<const N: usize>(a: &[Number; N], b: &[Number; N]) -> Result<[Number; N], Past>
     ensures { OkIff result (AllInRange (add_lists a.now b.now)) (add_lists a.now b.now) }
 {
@@ -17,6 +18,7 @@ pub fn sums<const N: usize>(a: &[Number; N], b: &[Number; N]) -> Result<[Number;
     Ok(all)
 }
 
+/// Each number times `k`. `Past` exactly where one of the products is not in range.
 pub fn products<const N: usize>(k: Number, a: &[Number; N]) -> Result<[Number; N], Past>
     ensures { OkIff result (AllInRange (scale_list k a.now)) (scale_list k a.now) }
 {
@@ -43,6 +45,7 @@ pub fn sum_of_products<const N: usize>(
     Ok(sum)
 }
 
+/// The opposite of each number.
 pub fn opposites<const N: usize>(a: &[Number; N]) -> [Number; N]
     ensures value { result ≡ negate_list a.now }
     ensures range { AllInRange (negate_list a.now) }
@@ -65,6 +68,7 @@ pub fn first<const N: usize>(a: &[Number; N], count: usize) -> [Number; N]
     all
 }
 
+/// Whether each number is 0.
 pub fn are_zero(a: &[Number]) -> bool
     ensures { result ≡ list_all is_zero a.now }
 {

@@ -38,6 +38,7 @@ impl Point {
         }
     }
 
+    /// The numerator of variable `v`, in range.
     pub fn numerator(&self, v: u32) -> i128
         requires { v < VARIABLES }
         ensures value { result ≡ slice_index_or self.now.numerators v (pos 0) }
@@ -46,6 +47,7 @@ impl Point {
         self.numerators[v as usize].get()
     }
 
+    /// The denominator, in range and at least 1.
     pub fn denominator(&self) -> i128
         ensures value { result ≡ self.now.denominator }
         ensures point { IsPoint self.now }

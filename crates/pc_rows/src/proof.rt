@@ -49,6 +49,7 @@ impl Parts {
         }
     }
 
+    /// How many parts there are.
     pub fn len(&self) -> usize
         ensures value { result ≡ length self.now }
         ensures parts { IsParts self.now }
@@ -56,6 +57,7 @@ impl Parts {
         self.parts.len()
     }
 
+    /// Part `i` of the list, counted from 0.
     pub fn at(&self, i: usize) -> Part
         requires { i < length self.now }
         ensures { slice_get self.now i ≡ Some result }
@@ -63,7 +65,7 @@ impl Parts {
         self.parts.as_slice()[i]
     }
 
-    /// Puts a part at the end. After a refusal the list is as before.
+    /// Puts a part at the end; its index is above those before it. After a refusal the list is as before.
     pub fn push(&mut self, part: Part) -> Result<(), NoMemory>
         requires premise { part.index < PREMISES }
         requires rising { IsAbove part.index self.old }
@@ -110,6 +112,7 @@ impl Model for Proof {
 }
 
 impl Proof {
+    /// The proof with `goal` as the multiplier of the negated goal.
     pub fn new(goal: Number, parts: Parts) -> Proof
         ensures { result ≡ record { goal = goal; parts = parts } }
     {
@@ -126,6 +129,7 @@ impl Proof {
         self.goal
     }
 
+    /// The premises with their multipliers.
     pub fn parts(&self) -> &Parts
         ensures { result.now ≡ self.now.parts }
     {

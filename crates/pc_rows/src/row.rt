@@ -62,6 +62,7 @@ impl Row {
         }
     }
 
+    /// The constant, in range.
     pub fn constant(&self) -> i128
         ensures value { result ≡ self.now.constant }
         ensures range { InRange result }
@@ -70,6 +71,7 @@ impl Row {
         self.constant.get()
     }
 
+    /// The coefficient at variable `v`, in range.
     pub fn coefficient(&self, v: u32) -> i128
         requires { v < VARIABLES }
         ensures value { result ≡ coefficient self.now v }
@@ -79,6 +81,7 @@ impl Row {
         self.coefficients[v as usize].get()
     }
 
+    /// The same row. It needs no memory.
     pub fn copy(&self) -> Row
         ensures value { result ≡ self.now }
         ensures row { IsRow self.now }

@@ -63,6 +63,7 @@ impl System {
         self.premises.len()
     }
 
+    /// Premise `i`, counted from 0.
     pub fn premise(&self, i: usize) -> &Row
         requires { i < length self.now.premises }
         ensures { slice_get self.now.premises i ≡ Some result.now }
@@ -70,6 +71,7 @@ impl System {
         &self.premises.as_slice()[i]
     }
 
+    /// The goal.
     pub fn goal(&self) -> &Row
         ensures { result.now ≡ self.now.goal }
     {
