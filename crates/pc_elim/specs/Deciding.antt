@@ -4,11 +4,10 @@ use Rattle.pc_rows.specs.declared.rows.NoMemory.{NoMemory}
 use Rattle.pc_rows.specs.Evidence.{System, Proof}
 use Rattle.pc_rows.specs.Shows.{Shows, TotalFits}
 use Rattle.pc_rows.specs.Points.{Refutes}
-use Rattle.pc_rows.specs.Modest.{IsModest, refuting}
-use Rattle.pc_elim.specs.declared.decide.Answer.{Answer}
-use Rattle.pc_elim.specs.declared.decide.Answer.TheVariants.{Shown, Point, Unsettled}
+use Rattle.pc_rows.specs.Modest.{IsModest}
+use Rattle.pc_elim.specs.declared.decision.Answer.{Answer}
+use Rattle.pc_elim.specs.declared.decision.Answer.TheVariants.{Shown, Point, Unsettled}
 use Rattle.pc_elim.specs.declared.made.TheConstants.{PARTS}
-use Rattle.pc_elim.specs.Elimination.{Made, started}
 use Rattle.pc_elim.specs.Settling.{proof_of}
 
 -- the proof shows the goal from the premises, and its total is computed in range
@@ -25,7 +24,7 @@ DecideIs s (Err e) = Unit {0}
 
 -- the multipliers as a proof, where its total is computed in range
 abbrev pub ShownIs : System → List ℤ → Result Answer NoMemory → Type 0
-ShownIs s ms (Ok (Shown p)) = (p ≡ proof_of (length s.premises) ms) × TotalFits s.premises s.goal p
+ShownIs s ms (Ok (Shown p)) = (length ms ≡ PARTS) × (p ≡ proof_of (length s.premises) ms) × TotalFits s.premises s.goal p
 ShownIs s ms (Ok (Point p)) = ⊥
 ShownIs s ms (Ok Unsettled) = TotalFits s.premises s.goal (proof_of (length s.premises) ms) → ⊥
 ShownIs s ms (Err e) = Unit {0}

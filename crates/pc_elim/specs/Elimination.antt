@@ -1,5 +1,5 @@
 -- Fourier-Motzkin elimination: a variable goes from rows by the combinations of two rows in which it has opposite signs.
-use Rattle.std.specs.Prelude.{◌≡◌, ℕ, zero, suc, ℤ, pos, neg_ℤ, ◌≤ℤ◌, int_lt, Bool, not, List, [], ◌∷◌, ◌++◌, slice_set, replicate, if◌then◌else◌}
+use Rattle.std.specs.Prelude.{◌≡◌, ℕ, zero, ◌+◌, ℤ, pos, neg_ℤ, ◌≤ℤ◌, int_lt, Bool, not, List, [], ◌∷◌, ◌++◌, slice_set, replicate, if◌then◌else◌}
 use Rattle.std.specs.List.{AllByRecursion, list_any}
 use Rattle.pc_rows.specs.Linear.{Linear, add_lists, scale_list, sum_of, scaled_by, coefficient, is_zero}
 use Rattle.pc_rows.specs.Shows.{nothing_row}
@@ -69,7 +69,7 @@ unit parts n = slice_set (replicate parts (pos 0)) n (pos 1)
 -- at the start each row is made of itself
 abbrev pub started_from : ℕ → ℕ → List Linear → List Made
 started_from parts n [] = []
-started_from parts n (r ∷ rows) = (record { row = r; multipliers = unit parts n }) ∷ started_from parts (suc n) rows
+started_from parts n (r ∷ rows) = (record { row = r; multipliers = unit parts n }) ∷ started_from parts (n + 1) rows
 
 abbrev pub started : ℕ → List Linear → List Made
 started parts rows = started_from parts zero rows

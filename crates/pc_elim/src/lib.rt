@@ -10,12 +10,12 @@
 #![tactic(auto)]
 
 mod bound;
-mod decide;
+mod decision;
 mod made;
 mod pairs;
 mod settle;
 
-pub use decide::{Answer, decide};
+pub use decision::{Answer, decide};
 pub use made::LIMIT;
 
 #[cfg(test)]

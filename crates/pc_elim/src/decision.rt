@@ -2,6 +2,7 @@
 
 ghost use Rattle.std.specs.Prelude.{◌≡◌, ◌<◌, ◌≤◌, ◌+◌, ℤ, [], ◌∷◌, ◌++◌, length, take, IfOk, slice_index_or, pos};
 ghost use Rattle.pc_rows.specs.Linear.{negation};
+ghost use Rattle.pc_rows.specs.Evidence.{IsAbove, IsSystem};
 ghost use Rattle.pc_rows.specs.Modest.{refuting};
 ghost use Rattle.pc_elim.specs.declared.made.TheConstants.{PARTS};
 ghost use Rattle.pc_elim.specs.Elimination.{started, unit};
@@ -10,7 +11,7 @@ ghost use Rattle.pc_elim.specs.Deciding.{DecideIs, ShownIs};
 
 use crate::made::{Fault, Made, PARTS};
 use crate::settle::{Found, settle};
-use pc_rows::{NoMemory, Number, Part, Parts, Past, Point, Proof, Row, System, total};
+use pc_rows::{NoMemory, Number, PREMISES, Part, Parts, Past, Point, Proof, Row, System, total};
 use sqlite_items::Items;
 use std::alloc::Global;
 
@@ -46,13 +47,15 @@ pub fn decide(alloc: Global, s: &System) -> Result<Answer, NoMemory>
 /// The premises in order and then the negated goal, each made of itself.
 fn started(alloc: Global, s: &System, negated: &Row) -> Result<Items<Made>, NoMemory>
     requires { negated.now ≡ negation s.now.goal }
-    ensures { IfOk result (λ rows. rows ≡ started PARTS (refuting s.now)) }
+    ensures rows { IfOk result (λ rows. rows ≡ started PARTS (refuting s.now)) }
+    ensures system { IsSystem s.now }
 {
+    let premises = s.len();
     let mut rows = Items::new(alloc);
-    for i in 0..s.len() {
+    for i in 0..premises {
         add(&mut rows, s.premise(i), i)?;
     }
-    add(&mut rows, negated, s.len())?;
+    add(&mut rows, negated, premises)?;
     Ok(rows)
 }
 
@@ -90,4 +93,18 @@ fn proof_of(
         add_part(&mut parts, i, multipliers[i])?;
     }
     Ok(Proof::new(multipliers[premises], parts))
+}
+
+fn add_part(parts: &mut Parts, i: usize, multiplier: Number) -> Result<(), NoMemory>
+    requires premise { i < PREMISES }
+    requires rising { IsAbove i parts.old }
+    ensures { IfOk result (λ _. parts.new ≡ parts.old ++ parts_from i (multiplier ∷ [])) }
+{
+    if multiplier.is_zero() {
+        return Ok(());
+    }
+    parts.push(Part {
+        index: i as u32,
+        multiplier,
+    })
 }
