@@ -13,3 +13,5 @@ pub mod Starting
 pub mod Settlement
 pub mod Adding
 pub mod Proving
+pub mod Totals
+pub mod Deciding
