@@ -1,5 +1,5 @@
 -- The greatest bound is one of the bounds, and is not below any of them.
-use Rattle.std.proofs.Common.{◌≡◌, ℕ, ℤ, pos, ◌*ℤ◌, refl, subst, ◌∙◌, ap, arith, ◌≤ℤ◌, List, [], ◌∷◌, Bool, true, false, cond, Option, Some, None}
+use Rattle.std.proofs.Common.{◌≡◌, ℕ, ℤ, pos, ◌*ℤ◌, refl, sym, subst, ◌∙◌, ap, arith, ◌≤ℤ◌, List, [], ◌∷◌, Bool, true, false, cond, Option, Some, None}
 use Rattle.std.specs.List.{AllByRecursion}
 use Rattle.std.proofs.lemmas.Int.{ints}
 use Rattle.pc_rows.specs.Evidence.{Point}
@@ -105,3 +105,7 @@ module _ (t : Bool) (k : ℕ) (point : Point) where
   pub greatest_none : (rs : List Made) → greatest t k point None rs ≡ None → AllByRecursion (λ r. is_positive (turned t (factor r k)) ≡ false) rs
   greatest_none [] h = tt
   greatest_none (r ∷ rs) h = let p = none_next (is_positive (turned t (factor r k))) r rs refl h in (p.0, greatest_none rs p.1)
+
+  -- a bound that is found has a weight above 0
+  pub found_weight : (rs : List Made) (o : Option Bound) (b : Bound) → o ≡ greatest t k point None rs → o ≡ Some b → pos 1 ≤ℤ b.weight
+  found_weight rs o b at is = (greatest_is None rs b tt (sym at ∙ is)).0

@@ -2,7 +2,7 @@
 use Rattle.std.proofs.Common.{◌≡◌, ℕ, zero, suc, ◌+◌, ◌*◌, ◌^◌, ◌≤◌, ◌<◌, ℤ, pos, negsuc, ◌+ℤ◌, refl, sym, subst, ◌∙◌, ap, arith, ◌≤ℤ◌, List, [], ◌∷◌, ◌++◌, Bool, true, false, cond, length, get_or, take, drop}
 use Rattle.std.specs.List.{AllByRecursion, list_all}
 use Rattle.std.proofs.lemmas.Int.{ints}
-use Rattle.std.proofs.lemmas.List.{drop_more}
+use Rattle.std.proofs.lemmas.List.{drop_more, take_more, length-take-le}
 use Rattle.pc_rows.specs.declared.proof.Part.{Part}
 use Rattle.pc_rows.specs.declared.row.TheConstants.{VARIABLES}
 use Rattle.pc_rows.specs.Linear.{Linear, add_lists, scale_list, sum_of, scaled_by, negation, is_zero}
@@ -152,6 +152,14 @@ parts_more i (n ∷ ms) m =
         ≡ cond t (parts_from (i + 1) ms) (part i n ∷ parts_from (i + 1) ms) ++ parts_from (i + suc (length ms)) (m ∷ [])
     by_zero true f = f
     by_zero false f = ap (λ (z : List Part). part i n ∷ z) f
+
+pub parts_next : (ms : List ℤ) (i : ℕ) (d : ℤ) → i < length ms → parts_from 0 (take i ms) ++ parts_from i (get_or ms i d ∷ []) ≡ parts_from 0 (take (i + 1) ms)
+parts_next ms i d lt =
+    let l = length-take-le i ms (omega arith) in
+    let e : 0 + length (take i ms) ≡ i = omega arith in
+    ap (λ (j : ℕ). parts_from 0 (take i ms) ++ parts_from j (get_or ms i d ∷ [])) (sym e)
+    ∙ sym (parts_more 0 (take i ms) (get_or ms i d))
+    ∙ ap (parts_from 0) (sym (take_more ms i d lt))
 
 get_each : (P : ℤ → Type 0) (ms : List ℤ) (i : ℕ) → P (pos 0) → AllByRecursion P ms → P (get_or ms i (pos 0))
 get_each P [] i z h = z

@@ -1,5 +1,7 @@
 -- The rows at the start: each is made of itself alone.
-use Rattle.std.proofs.Common.{◌≡◌, ℕ, zero, suc, ◌+◌, ◌≤◌, ◌<◌, ◌^◌, ℤ, pos, ◌+ℤ◌, ◌*ℤ◌, refl, sym, subst, ◌∙◌, ap, arith, ◌≤ℤ◌, List, [], ◌∷◌, ◌++◌, Bool, true, false, length, drop, replicate}
+use Rattle.std.proofs.Common.{◌≡◌, ℕ, zero, suc, ◌+◌, ◌≤◌, ◌<◌, ◌^◌, ℤ, pos, ◌+ℤ◌, ◌*ℤ◌, refl, sym, subst, ◌∙◌, ap, arith, ◌≤ℤ◌, List, [], ◌∷◌, ◌++◌, Bool, true, false, length, take, drop, replicate, slice_get, Some}
+use Rattle.std.proofs.lemmas.List.{take_more, take_all, length-take-le}
+use Rattle.std.proofs.lemmas.Option.{slice_get_within, get_or_from_slice_get}
 use Rattle.std.specs.Prelude.{not, ◌||◌}
 use Rattle.std.specs.List.{AllByRecursion}
 use Rattle.std.proofs.lemmas.Int.{ints}
@@ -176,3 +178,24 @@ started_more parts n [] r = let e : n ≡ n + 0 = omega arith in ap (λ (i : ℕ
 started_more parts n (q ∷ rows) r =
     let e : n + 1 + length rows ≡ n + suc (length rows) = omega arith in
     ap (λ (z : List Made). made parts n q ∷ z) (started_more parts (n + 1) rows r ∙ ap (λ (i : ℕ). started_from parts (n + 1) rows ++ made parts i r ∷ []) e)
+
+pub started_next : (parts i : ℕ) (rows : List Linear) (r : Linear) → slice_get rows i ≡ Some r →
+    started_from parts 0 (take i rows) ++ (record { row = r; multipliers = unit parts i }) ∷ [] ≡ started_from parts 0 (take (i + 1) rows)
+unfolding made
+started_next parts i rows r at =
+    let lt = slice_get_within rows i r at in
+    let l = length-take-le i rows (omega arith) in
+    let e : 0 + length (take i rows) ≡ i = omega arith in
+    ap (λ (j : ℕ). started_from parts 0 (take i rows) ++ made parts j r ∷ []) (sym e)
+    ∙ sym (started_more parts 0 (take i rows) r)
+    ∙ ap (λ (x : Linear). started_from parts 0 (take i rows ++ x ∷ [])) (sym (get_or_from_slice_get rows i r r at))
+    ∙ ap (started_from parts 0) (sym (take_more rows i r lt))
+
+pub started_end : (parts i n : ℕ) (rows : List Linear) (r : Linear) (out : List Made) → length rows ≤ i → n ≡ length rows → out ≡ started_from parts 0 (take i rows) →
+    out ++ (record { row = r; multipliers = unit parts n }) ∷ [] ≡ started parts (rows ++ r ∷ [])
+unfolding made
+started_end parts i n rows r out le is h =
+    let from_none : n ≡ 0 + length rows = omega arith in
+    ap (λ (z : List Made). z ++ made parts n r ∷ []) (h ∙ ap (started_from parts 0) (take_all i rows le))
+    ∙ ap (λ (j : ℕ). started_from parts 0 rows ++ made parts j r ∷ []) from_none
+    ∙ sym (started_more parts 0 rows r)
