@@ -1,5 +1,5 @@
 -- Comparisons of fractions by their cross products, and what tests of signs say.
-use Rattle.std.proofs.Common.{◌≡◌, ℕ, ℤ, pos, negsuc, ◌+ℤ◌, ◌*ℤ◌, subst, ◌∙◌, ap, arith, ◌≤ℤ◌, true, false}
+use Rattle.std.proofs.Common.{◌≡◌, ℤ, pos, negsuc, ◌+ℤ◌, ◌*ℤ◌, subst, ◌∙◌, ap, arith, ◌≤ℤ◌, true, false}
 use Rattle.std.specs.Prelude.{int_lt}
 use Rattle.std.proofs.lemmas.Int.{ints, by_lt_z}
 use Rattle.pc_rows.proofs.Ring.{mul_add, mul_comm, mul_assoc, mul_le}

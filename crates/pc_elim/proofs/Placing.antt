@@ -12,7 +12,6 @@ use Rattle.pc_rows.proofs.Algebra.{get_or-scale_list, length-scale_list}
 use Rattle.pc_rows.proofs.Farkas.{numerator-sum, numerator-scaled}
 use Rattle.pc_elim.specs.Elimination.{Made, Bound, is_positive, factor, combine, with_each, made_of, made_from, eliminated}
 use Rattle.pc_elim.specs.Placing.{bound_of, turned, greatest, placed_at, placed_by, placed}
-use Rattle.pc_elim.proofs.Fractions.{positive_is, not_positive_is}
 use Rattle.pc_elim.proofs.Bounds.{Beats, Gives, Has, greatest_is, greatest_has, greatest_none}
 
 abbrev pub IsMetAt : Point → Made → Type 0

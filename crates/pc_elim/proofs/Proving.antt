@@ -1,15 +1,14 @@
 -- Multipliers by place as a proof with named premises: the same total.
-use Rattle.std.proofs.Common.{◌≡◌, ℕ, zero, suc, ◌+◌, ◌*◌, ◌^◌, ◌≤◌, ◌<◌, ℤ, pos, negsuc, ◌+ℤ◌, refl, sym, subst, ◌∙◌, ap, arith, ◌≤ℤ◌, List, [], ◌∷◌, ◌++◌, Bool, true, false, cond, length, get_or, take, drop}
+use Rattle.std.proofs.Common.{◌≡◌, ℕ, zero, suc, ◌+◌, ◌≤◌, ◌<◌, ℤ, pos, negsuc, refl, sym, subst, ◌∙◌, ap, arith, ◌≤ℤ◌, List, [], ◌∷◌, ◌++◌, Bool, true, false, cond, length, get_or, take, drop}
 use Rattle.std.specs.List.{AllByRecursion, list_all}
 use Rattle.std.proofs.lemmas.Int.{ints}
 use Rattle.std.proofs.lemmas.List.{drop_more, take_more, length-take-le}
 use Rattle.pc_rows.specs.declared.proof.Part.{Part}
-use Rattle.pc_rows.specs.declared.row.TheConstants.{VARIABLES}
-use Rattle.pc_rows.specs.Linear.{Linear, add_lists, scale_list, sum_of, scaled_by, negation, is_zero}
-use Rattle.pc_rows.specs.Evidence.{Proof, IsAbove}
+use Rattle.pc_rows.specs.Linear.{Linear, sum_of, scaled_by, negation, is_zero}
+use Rattle.pc_rows.specs.Evidence.{IsAbove}
 use Rattle.pc_rows.specs.Shows.{nothing_row, with_parts, total, Shows}
 use Rattle.pc_rows.proofs.Lists.{zero_is}
-use Rattle.pc_rows.proofs.Joining.{number_is_meant, each_join}
+use Rattle.pc_rows.proofs.Joining.{number_is_meant}
 use Rattle.pc_rows.proofs.Algebra.{row_assoc, row_comm, nothing_left, nothing_right, length-add_lists, length-scale_list, length-negate_list}
 use Rattle.pc_elim.specs.Elimination.{combination}
 use Rattle.pc_elim.specs.Settling.{parts_from, proof_of}

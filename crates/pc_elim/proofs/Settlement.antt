@@ -1,5 +1,5 @@
 -- One variable of a settlement: what comes of it, and of the faults on the way.
-use Rattle.std.proofs.Common.{◌≡◌, ℕ, zero, suc, ◌+◌, ◌-◌, ◌≤◌, ◌<◌, refl, sym, subst, ◌∙◌, ap, arith, List, [], length, Bool, true, false, Result, Ok, Err}
+use Rattle.std.proofs.Common.{◌≡◌, ℕ, suc, ◌+◌, ◌-◌, ◌≤◌, ◌<◌, refl, sym, subst, ◌∙◌, ap, arith, List, length, false, Result, Ok, Err}
 use Rattle.std.specs.List.{AllByRecursion}
 use Rattle.pc_elim.specs.declared.settle.Found.{Found}
 use Rattle.pc_elim.specs.declared.settle.Found.TheVariants.{Shown, At}

@@ -1,5 +1,5 @@
 -- At a point whose numbers are small, values and bounds are small, and so is the point that is found from them.
-use Rattle.std.proofs.Common.{◌≡◌, ℕ, suc, ◌+◌, ◌*◌, ◌^◌, ◌≤◌, ◌<◌, ℤ, ◌+ℤ◌, ◌*ℤ◌, neg_ℤ, refl, subst, arith, List, [], ◌∷◌, Bool, true, false, cond, Option, Some, None, length}
+use Rattle.std.proofs.Common.{◌≡◌, ℕ, suc, ◌+◌, ◌*◌, ◌^◌, ◌≤◌, ◌<◌, ℤ, ◌+ℤ◌, ◌*ℤ◌, subst, arith, List, [], ◌∷◌, Bool, true, false, cond, Option, Some, None, length}
 use Rattle.std.specs.List.{AllByRecursion}
 use Rattle.std.proofs.lemmas.Int.{ints}
 use Rattle.std.proofs.Math.Nat.{mul-le-mul_left}

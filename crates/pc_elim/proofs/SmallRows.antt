@@ -1,5 +1,5 @@
 -- Combinations of rows whose numbers are small.
-use Rattle.std.proofs.Common.{ℕ, ℤ, ◌+◌, ◌*◌, ◌^◌, ◌≤◌, ◌<◌, ◌≡◌, ◌*ℤ◌, neg_ℤ, arith, List, [], ◌∷◌}
+use Rattle.std.proofs.Common.{ℕ, ℤ, ◌+◌, ◌*◌, ◌^◌, ◌≤◌, ◌<◌, neg_ℤ, arith, List, [], ◌∷◌}
 use Rattle.std.specs.List.{AllByRecursion}
 use Rattle.pc_rows.specs.Linear.{Linear, IsInRange, scale_list, sum_of, scaled_by}
 use Rattle.pc_rows.specs.Bounds.{IsWithin, AreWithin, Within}

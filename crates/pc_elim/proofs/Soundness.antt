@@ -6,10 +6,9 @@ use Rattle.std.proofs.lemmas.Int.{ints}
 use Rattle.std.proofs.Math.IntN.{*ℤ-zero}
 use Rattle.pc_rows.specs.Linear.{Linear, add_lists, scale_list, sum_of, scaled_by, is_zero}
 use Rattle.pc_rows.specs.Shows.{nothing_row}
-use Rattle.pc_rows.specs.Evidence.{Point}
 use Rattle.pc_rows.proofs.Ring.{mul_neg, mul_comm, product_not_negative}
 use Rattle.pc_rows.proofs.Lists.{zero_is}
-use Rattle.pc_rows.proofs.Algebra.{add_nothing, same_row, row_crossed, row_scale_sum, row_scales, row_scale_scale, nothing_left, nothing_right, scaled_nothing, get_or-add_lists, get_or-scale_list, length-add_lists, length-scale_list}
+use Rattle.pc_rows.proofs.Algebra.{row_crossed, row_scale_sum, row_scales, row_scale_scale, nothing_left, nothing_right, scaled_nothing, get_or-add_lists, get_or-scale_list, length-add_lists, length-scale_list}
 use Rattle.pc_elim.specs.declared.settle.Found.{Found}
 use Rattle.pc_elim.specs.declared.settle.Found.TheVariants.{Shown, At}
 use Rattle.pc_elim.specs.Elimination.{Made, is_positive, factor, combine, eliminated, combination, Carries}

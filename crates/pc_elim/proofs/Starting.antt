@@ -1,5 +1,5 @@
 -- The rows at the start: each is made of itself alone.
-use Rattle.std.proofs.Common.{◌≡◌, ℕ, zero, suc, ◌+◌, ◌≤◌, ◌<◌, ◌^◌, ℤ, pos, ◌+ℤ◌, ◌*ℤ◌, refl, sym, subst, ◌∙◌, ap, arith, ◌≤ℤ◌, List, [], ◌∷◌, ◌++◌, Bool, true, false, length, take, drop, replicate, slice_get, Some}
+use Rattle.std.proofs.Common.{◌≡◌, ℕ, zero, suc, ◌+◌, ◌≤◌, ◌<◌, ◌^◌, ℤ, pos, ◌+ℤ◌, refl, sym, subst, ◌∙◌, ap, arith, ◌≤ℤ◌, List, [], ◌∷◌, ◌++◌, Bool, length, take, drop, replicate, slice_get, Some}
 use Rattle.std.proofs.lemmas.List.{take_more, take_all, length-take-le}
 use Rattle.std.proofs.lemmas.Option.{slice_get_within, get_or_from_slice_get}
 use Rattle.std.specs.Prelude.{not, ◌||◌}
@@ -12,7 +12,7 @@ use Rattle.pc_rows.specs.Linear.{Linear, add_lists, scale_list, sum_of, scaled_b
 use Rattle.pc_rows.specs.Bounds.{AreWithin, AllWithin}
 use Rattle.pc_rows.specs.Shows.{nothing_row}
 use Rattle.pc_rows.specs.Evidence.{Point}
-use Rattle.pc_rows.specs.Points.{MeetsAt, AllMeetAt}
+use Rattle.pc_rows.specs.Points.{AllMeetAt}
 use Rattle.pc_rows.specs.Modest.{occurs, occurring}
 use Rattle.pc_rows.proofs.Bounding.{more_within}
 use Rattle.pc_rows.proofs.Algebra.{same_row, scaled_one, length-scale_list}

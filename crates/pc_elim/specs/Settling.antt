@@ -1,5 +1,5 @@
 -- Rows are settled by multipliers that make a contradiction of them, or by a point that meets them all.
-use Rattle.std.specs.Prelude.{◌≡◌, ℕ, zero, suc, ◌+◌, ℤ, pos, int_lt, Bool, List, [], ◌∷◌, take, replicate, slice_index_or, if◌then◌else◌}
+use Rattle.std.specs.Prelude.{ℕ, zero, suc, ◌+◌, ℤ, pos, int_lt, Bool, List, [], ◌∷◌, take, replicate, slice_index_or, if◌then◌else◌}
 use Rattle.pc_rows.specs.declared.proof.Part.{Part}
 use Rattle.pc_rows.specs.Linear.{is_zero}
 use Rattle.pc_rows.specs.Evidence.{Point, Proof}

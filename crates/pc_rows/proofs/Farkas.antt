@@ -4,8 +4,8 @@ use Rattle.std.proofs.lemmas.Int.{ints, by_lt_z}
 use Rattle.std.proofs.Math.IntN.{zero-*ℤ}
 use Rattle.std.specs.List.{AllByRecursion}
 use Rattle.pc_rows.specs.declared.proof.Part.{Part}
-use Rattle.pc_rows.specs.Linear.{Linear, State, value, MeetsAll, sum_of, scaled_by, negation, dot}
-use Rattle.pc_rows.specs.Evidence.{Proof, Point}
+use Rattle.pc_rows.specs.Linear.{Linear, State, value, MeetsAll, sum_of, scaled_by, negation}
+use Rattle.pc_rows.specs.Evidence.{Point}
 use Rattle.pc_rows.specs.Shows.{nothing_row, times_premise, with_parts, total}
 use Rattle.pc_rows.specs.Points.{numerator, MeetsAt, AllMeetAt}
 use Rattle.pc_rows.specs.Laws.{ShownIsMet, RefutedIsNotShown}

@@ -1,5 +1,5 @@
 -- When a proof shows a goal from premises (Farkas's lemma in its easy direction, with the integer negation).
-use Rattle.std.specs.Prelude.{◌≡◌, ℕ, ◌<◌, ℤ, pos, negsuc, ◌≤ℤ◌, List, [], ◌∷◌, length, slice_index_or}
+use Rattle.std.specs.Prelude.{◌<◌, pos, negsuc, ◌≤ℤ◌, List, [], ◌∷◌, length, slice_index_or}
 use Rattle.std.specs.List.{AllByRecursion}
 use Rattle.pc_rows.specs.declared.proof.Part.{Part}
 use Rattle.pc_rows.specs.Linear.{Linear, IsInRange, IsNumber, sum_of, scaled_by, negation}

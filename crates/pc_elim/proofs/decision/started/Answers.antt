@@ -1,5 +1,5 @@
 use Rattle.std.proofs.Common.{◌∙◌, ◌++◌, [], ◌∷◌, ap, arith, List}
-use Rattle.pc_rows.specs.Linear.{Linear, negation}
+use Rattle.pc_rows.specs.Linear.{Linear}
 use Rattle.pc_elim.specs.declared.made.TheConstants.{PARTS}
 use Rattle.pc_elim.specs.Elimination.{Made, unit, started}
 use Rattle.pc_elim.proofs.Starting.{started_next, started_end}
