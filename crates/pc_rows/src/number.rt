@@ -1,0 +1,122 @@
+ghost use Rattle.std.specs.Prelude.{◌≡◌, ◌≢◌, ◌-ℤ◌, int_div, int_rem, ℤ, pos, ◌+ℤ◌, ◌*ℤ◌, neg_ℤ, OkIff, int_le};
+ghost use Rattle.pc_rows.specs.Linear.{InRange, is_zero, lesser};
+
+use std::marker::Model;
+
+/// A result that is not in range.
+#[derive(Clone, Copy, Debug, PartialEq, Eq)]
+pub struct Past;
+
+/// A number in range.
+#[derive(Clone, Copy, Debug, PartialEq, Eq)]
+pub struct Number {
+    n: i128,
+}
+
+impl Model for Number {
+    ghost use Rattle.std.specs.Prelude.{ℤ};
+    ghost use Rattle.pc_rows.specs.Linear.{InRange};
+
+    ghost Value = { ℤ };
+
+    ghost view = { λ a. a.n };
+
+    ghost invariant = { λ a. InRange a.n };
+
+    ghost inverse = { λ z. record { n = z } };
+}
+
+impl Number {
+    pub fn new(n: i128) -> Number
+        requires { InRange n }
+        ensures { result ≡ n }
+    {
+        Number { n }
+    }
+
+    pub fn get(self) -> i128
+        ensures value { result ≡ self }
+        ensures range { InRange self }
+    {
+        self.n
+    }
+
+    pub fn plus(self, other: Number) -> Result<Number, Past>
+        ensures { OkIff result (InRange (self +ℤ other)) (self +ℤ other) }
+    {
+        match self.n.checked_add(other.n) {
+            Some(n) if n != i128::MIN => Ok(Number { n }),
+            _ => Err(Past),
+        }
+    }
+
+    pub fn times(self, other: Number) -> Result<Number, Past>
+        ensures { OkIff result (InRange (self *ℤ other)) (self *ℤ other) }
+    {
+        match self.n.checked_mul(other.n) {
+            Some(n) if n != i128::MIN => Ok(Number { n }),
+            _ => Err(Past),
+        }
+    }
+
+    /// The quotient where it is whole.
+    pub fn over(self, d: Number) -> Result<Number, Past>
+        requires { d ≢ pos 0 }
+        ensures { OkIff result ((int_rem self d ≡ pos 0) × InRange (int_div self d)) (int_div self d) }
+    {
+        if self.n % d.n != 0 {
+            return Err(Past);
+        }
+        let n = self.n / d.n;
+        if n == i128::MIN {
+            return Err(Past);
+        }
+        Ok(Number { n })
+    }
+
+    pub fn minus(self, other: Number) -> Result<Number, Past>
+        ensures { OkIff result (InRange (self -ℤ other)) (self -ℤ other) }
+    {
+        match self.n.checked_sub(other.n) {
+            Some(n) if n != i128::MIN => Ok(Number { n }),
+            _ => Err(Past),
+        }
+    }
+
+    pub fn negated(self) -> Number
+        ensures value { result ≡ neg_ℤ self }
+        ensures range { InRange result }
+    {
+        Number { n: -self.n }
+    }
+
+    pub fn min(self, other: Number) -> Number
+        ensures { result ≡ lesser self other }
+    {
+        if other.n < self.n { other } else { self }
+    }
+
+    pub fn is_zero(self) -> bool
+        ensures { result ≡ is_zero self }
+    {
+        self.n == 0
+    }
+
+    pub fn is_at_least_zero(self) -> bool
+        ensures { result ≡ int_le (pos 0) self }
+    {
+        0 <= self.n
+    }
+
+    pub fn is_at_most(self, other: Number) -> bool
+        ensures { result ≡ int_le self other }
+    {
+        self.n <= other.n
+    }
+}
+
+impl Default for Number {
+    fn default() -> Number {
+        Number { n: 0 }
+    }
+}
