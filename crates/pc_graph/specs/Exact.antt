@@ -1,0 +1,54 @@
+-- Annotations of graphs: closed sets of states are safe, and without tests and loops what is owed is exact.
+use Rattle.std.specs.Prelude.{◌≡◌, ℕ, ◌<◌, List, [], length}
+use Rattle.std.specs.List.{AllByRecursion as Each}
+use Rattle.pc_rows.specs.Linear.{Linear, MeetsAll}
+use Rattle.pc_syntax.specs.Values.{State}
+use Rattle.pc_graph.specs.Arc.{What, Enter, Test, Set, Check, Arc, IsFit}
+use Rattle.pc_graph.specs.Carry.{IsWide, HasVariable, owes}
+use Rattle.pc_graph.specs.Flow.{Flow}
+use Rattle.pc_graph.specs.Lists.{In}
+use Rattle.pc_graph.specs.Walk.{entered, GraphSafe, Breaks, IsClosed}
+
+-- where no edge leaves a set of states and each assertion holds in it, its entry states are safe
+abbrev pub ClosedIsSafe : Type 0
+ClosedIsSafe = (g : Flow) (b : ℕ → State → Type 0) (s : State) → IsClosed g.edges b → b 0 (entered g s) → GraphSafe g s
+
+-- rows for each point
+abbrev pub Annotation : Type 0
+Annotation = ℕ → List Linear
+
+abbrev pub NoRows : What → Type 0
+NoRows (Test rows) = rows ≡ []
+NoRows (Enter params) = Unit {0}
+NoRows (Set x form lo hi) = Unit {0}
+NoRows (Check rows) = Unit {0}
+
+-- an edge of a graph without tests and loops: it leads up, and every state passes it unless it is an assertion
+pub record StraightEdge (points variables : ℕ) (e : Arc) : Type 0 where
+  pub rises : e.from < e.to
+  pub within : e.to < points
+  pub free : NoRows e.what
+  pub fits : IsFit e.what
+  pub assigns : (s : State) → length s ≡ variables → HasVariable e.what s
+
+-- each row at a point is owed over some edge from it
+abbrev pub IsOwed : List Arc → Annotation → Type 0
+IsOwed g a = (p : ℕ) (r : Linear) → In r (a p) → (e : Arc) × In e g × (e.from ≡ p) × In r (owes e.what (a e.to))
+
+-- what is owed on a graph without tests and loops
+pub record StraightNeed (g : Flow) (a : Annotation) : Type 0 where
+  pub edges : Each (StraightEdge (length g.points) g.variables) g.edges
+  pub wide : (p : ℕ) → Each IsWide (a p)
+  pub owed : IsOwed g.edges a
+
+-- an entry state that breaks a row of the entry has a walk to an assertion that does not hold
+abbrev pub BrokenHasWalk : Type 0
+BrokenHasWalk =
+    (g : Flow) (a : Annotation) (s : State) → StraightNeed g a → length (entered g s) ≡ g.variables →
+    (MeetsAll (entered g s) (a 0) → ⊥) → Breaks g s
+
+-- a safe entry state meets the rows of the entry
+abbrev pub OwedIsNeeded : Type 0
+OwedIsNeeded =
+    (g : Flow) (a : Annotation) (s : State) → StraightNeed g a → length (entered g s) ≡ g.variables →
+    GraphSafe g s → MeetsAll (entered g s) (a 0)

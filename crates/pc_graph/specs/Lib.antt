@@ -1,0 +1,11 @@
+pub mod Lists
+pub mod Arc
+pub mod Flow
+pub mod Fit
+pub mod Ways
+pub mod Lowering
+pub mod Rest
+pub mod Walk
+pub mod Corresponds
+pub mod Carry
+pub mod Exact

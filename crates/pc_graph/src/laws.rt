@@ -1,0 +1,35 @@
+//! What graphs promise of programs and of rows, as contracts of functions that do nothing.
+
+ghost use Rattle.pc_graph.specs.Carry.{CarryingIsExact, OwedIsEnough};
+ghost use Rattle.pc_graph.specs.Corresponds.{StepsCorrespond};
+ghost use Rattle.pc_graph.specs.Exact.{ClosedIsSafe, BrokenHasWalk, OwedIsNeeded};
+
+/// A program and its graph take the same steps.
+pub fn steps_correspond()
+    ensures { StepsCorrespond }
+{}
+
+/// A state meets a row carried back over an edge exactly where all its successors meet the row.
+pub fn carrying_is_exact()
+    ensures { CarryingIsExact }
+{}
+
+/// Who meets what an edge owes keeps its assertion, and his successors meet the rows at its target.
+pub fn owed_is_enough()
+    ensures { OwedIsEnough }
+{}
+
+/// Where no edge leaves a set of states and each assertion holds in it, its entry states are safe.
+pub fn closed_is_safe()
+    ensures { ClosedIsSafe }
+{}
+
+/// Without tests and loops an entry state that breaks what is owed has a walk to an assertion that does not hold.
+pub fn broken_has_walk()
+    ensures { BrokenHasWalk }
+{}
+
+/// Without tests and loops a safe entry state meets what is owed.
+pub fn owed_is_needed()
+    ensures { OwedIsNeeded }
+{}

@@ -1,0 +1,12 @@
+//! Points and edges: the graph of a program, and rows that are carried back over its edges.
+#![tactic(auto)]
+
+mod edge;
+mod laws;
+mod point;
+mod what;
+
+pub use edge::Edge;
+pub use laws::{broken_has_walk, carrying_is_exact, closed_is_safe, owed_is_enough, owed_is_needed, steps_correspond};
+pub use point::PointInfo;
+pub use what::{TEST_ROWS, What};
