@@ -1,21 +1,26 @@
--- Annotations of graphs: closed sets of states are safe, and without tests and loops what is owed is exact.
+-- Annotations: rows for each point of a graph. Where each edge is paid they are safe, and without tests and loops what is owed is exact.
 use Rattle.std.specs.Prelude.{◌≡◌, ℕ, ◌<◌, List, [], length}
 use Rattle.std.specs.List.{AllByRecursion as Each}
 use Rattle.pc_rows.specs.Linear.{Linear, MeetsAll}
 use Rattle.pc_syntax.specs.Values.{State}
 use Rattle.pc_graph.specs.Arc.{What, Enter, Test, Set, Check, Arc, IsFit}
-use Rattle.pc_graph.specs.Carry.{IsWide, HasVariable, owes}
+use Rattle.pc_graph.specs.Carry.{IsWide, HasVariable, Pays, owes}
 use Rattle.pc_graph.specs.Flow.{Flow}
 use Rattle.pc_graph.specs.Lists.{In}
-use Rattle.pc_graph.specs.Walk.{entered, GraphSafe, Breaks, IsClosed}
-
--- where no edge leaves a set of states and each assertion holds in it, its entry states are safe
-abbrev pub ClosedIsSafe : Type 0
-ClosedIsSafe = (g : Flow) (b : ℕ → State → Type 0) (s : State) → IsClosed g.edges b → b 0 (entered g s) → GraphSafe g s
+use Rattle.pc_graph.specs.Walk.{entered, GraphSafe, Breaks}
 
 -- rows for each point
 abbrev pub Annotation : Type 0
 Annotation = ℕ → List Linear
+
+-- at each edge the states that meet the rows of its source pay what is asked for the rows of its target
+abbrev pub IsPaid : Flow → Annotation → Type 0
+IsPaid g a = (e : Arc) → In e g.edges → (s : State) → length s ≡ g.variables → MeetsAll s (a e.from) → Pays e.what s (a e.to)
+
+-- an entry state that meets the rows of the entry is safe
+abbrev pub PaidIsSafe : Type 0
+PaidIsSafe =
+    (g : Flow) (a : Annotation) (s : State) → IsPaid g a → length (entered g s) ≡ g.variables → MeetsAll (entered g s) (a 0) → GraphSafe g s
 
 abbrev pub NoRows : What → Type 0
 NoRows (Test rows) = rows ≡ []

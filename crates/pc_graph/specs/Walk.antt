@@ -56,11 +56,3 @@ GraphSafe g s = (es : List Arc) (p : ℕ) (t : State) → Walk g s es p t → (e
 abbrev pub Breaks : Flow → State → Type 0
 Breaks g s =
     (es : List Arc) × (p : ℕ) × (t : State) × Walk g s es p t × ((e : Arc) × In e g.edges × (e.from ≡ p) × (Keeps e.what t → ⊥))
-
--- a set of states for each point that no edge leaves, and in which each assertion holds
-abbrev pub IsClosed : List Arc → (ℕ → State → Type 0) → Type 0
-IsClosed g b = (e : Arc) → In e g → (s : State) → b e.from s → Keeps e.what s × ((t : State) → Pass e.what s t → b e.to t)
-
--- a set of states for each point that no edge leaves
-abbrev pub IsForward : List Arc → (ℕ → State → Type 0) → Type 0
-IsForward g b = (e : Arc) → In e g → (s t : State) → b e.from s → Pass e.what s t → b e.to t

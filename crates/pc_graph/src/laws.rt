@@ -2,7 +2,7 @@
 
 ghost use Rattle.pc_graph.specs.Carry.{CarryingIsExact, OwedIsEnough};
 ghost use Rattle.pc_graph.specs.Corresponds.{StepsCorrespond};
-ghost use Rattle.pc_graph.specs.Exact.{ClosedIsSafe, BrokenHasWalk, OwedIsNeeded};
+ghost use Rattle.pc_graph.specs.Exact.{PaidIsSafe, BrokenHasWalk, OwedIsNeeded};
 
 /// A program and its graph take the same steps.
 pub fn steps_correspond()
@@ -19,9 +19,9 @@ pub fn owed_is_enough()
     ensures { OwedIsEnough }
 {}
 
-/// Where no edge leaves a set of states and each assertion holds in it, its entry states are safe.
-pub fn closed_is_safe()
-    ensures { ClosedIsSafe }
+/// Where each edge is paid by the rows of its source, an entry state that meets the rows of the entry is safe.
+pub fn paid_is_safe()
+    ensures { PaidIsSafe }
 {}
 
 /// Without tests and loops an entry state that breaks what is owed has a walk to an assertion that does not hold.
