@@ -1,0 +1,4 @@
+pub mod Results
+pub mod Exprs
+pub mod FormLemmas
+pub mod RowLemmas
