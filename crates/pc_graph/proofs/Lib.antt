@@ -1,5 +1,4 @@
 pub mod Lists
-pub mod Forms
 pub mod Tests
 pub mod Cases
 pub mod Unrolled

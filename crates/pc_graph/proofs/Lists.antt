@@ -1,6 +1,6 @@
 -- What holds of each item of a list, and members.
-use Rattle.std.proofs.Common.{◌≡◌, List, [], ◌∷◌, ◌++◌, refl, sym, subst, inl, inr, Bool, true, false}
-use Rattle.std.specs.Prelude.{◌⊎◌, ◌&&◌}
+use Rattle.std.proofs.Common.{◌≡◌, List, [], ◌∷◌, ◌++◌, refl, sym, subst, inl, inr}
+use Rattle.std.specs.Prelude.{◌⊎◌}
 use Rattle.std.specs.List.{AllByRecursion as Each}
 use Rattle.pc_graph.specs.Lists.{In}
 
@@ -49,11 +49,3 @@ in_either x (y ∷ xs) ys (inr m) = by (in_either x xs ys m)
     by : In x xs ⊎ In x ys → In x (y ∷ xs) ⊎ In x ys
     by (inl n) = inl (inr n)
     by (inr n) = inr n
-
-pub and_is : (b c : Bool) → (b && c) ≡ true → (b ≡ true) × (c ≡ true)
-and_is true c h = (refl, h)
-and_is false c h = cc
-
-pub and_of : (b c : Bool) → b ≡ true → c ≡ true → (b && c) ≡ true
-and_of true c h k = k
-and_of false c h k = cc

@@ -3,13 +3,13 @@ use Rattle.std.proofs.Common.{◌≡◌, ℕ, ◌+◌, ℤ, List, [], ◌∷◌,
 use Rattle.std.specs.Prelude.{◌&&◌, slice_set, ◌+ℤ◌}
 use Rattle.pc_text.specs.declared.place.Place.{Place}
 use Rattle.pc_syntax.specs.Machine.{step, Going, Violated, Blocked, drawn}
+use Rattle.pc_syntax.specs.Sane.{sane_stmt, sane_step, sane_stmts, sane_test, sane_each}
 use Rattle.pc_syntax.specs.Values.{State, value_of, all_hold, chosen}
 use Rattle.pc_syntax.specs.declared.tree.Compare.{Compare}
 use Rattle.pc_syntax.specs.declared.tree.Right.{Right}
 use Rattle.pc_syntax.specs.declared.tree.Test.{Test}
 use Rattle.pc_syntax.specs.declared.tree.Stmt.{Stmt, Stmt-F, roll-Stmt, out-roll-Stmt, fold-roll-Stmt, para-roll-Stmt}
 use Rattle.pc_syntax.specs.declared.tree.Stmt.TheOpen as stmt
-use Rattle.pc_graph.specs.Fit.{stmt_fits, fit_step, body_fits, test_fits, is_plain}
 use Rattle.pc_graph.specs.Lowering.{Rule, rule, rule_step, rules}
 use Rattle.pc_graph.specs.Rest.{Rests, rests, rests_step, rests_in_order, rests_of, firsts}
 
@@ -40,12 +40,12 @@ pub rule-while : (p : Place) (t : Test) (tried : List Compare) (xs : List Stmt) 
     rule (roll-Stmt (stmt.While p t tried xs)) ≡ rule_step (stmt.While p t tried (map rule xs))
 rule-while p t tried xs = fold-roll-Stmt Rule rule_step (stmt.While p t tried xs)
 
-pub fits-if : (n : ℕ) (p : Place) (t : Test) (xs ys : List Stmt) → stmt_fits n (roll-Stmt (stmt.If p t xs ys)) ≡ (test_fits n t && (body_fits n xs && body_fits n ys))
-fits-if n p t xs ys = fold-roll-Stmt Bool (fit_step n) (stmt.If p t xs ys)
+pub sane-if : (n : ℕ) (p : Place) (t : Test) (xs ys : List Stmt) → sane_stmt n (roll-Stmt (stmt.If p t xs ys)) ≡ (sane_test n t && (sane_stmts n xs && sane_stmts n ys))
+sane-if n p t xs ys = fold-roll-Stmt Bool (sane_step n) (stmt.If p t xs ys)
 
-pub fits-while : (n : ℕ) (p : Place) (t : Test) (tried : List Compare) (xs : List Stmt) →
-    stmt_fits n (roll-Stmt (stmt.While p t tried xs)) ≡ (test_fits n t && (is_plain n tried && body_fits n xs))
-fits-while n p t tried xs = fold-roll-Stmt Bool (fit_step n) (stmt.While p t tried xs)
+pub sane-while : (n : ℕ) (p : Place) (t : Test) (tried : List Compare) (xs : List Stmt) →
+    sane_stmt n (roll-Stmt (stmt.While p t tried xs)) ≡ (sane_test n t && (sane_each n tried && sane_stmts n xs))
+sane-while n p t tried xs = fold-roll-Stmt Bool (sane_step n) (stmt.While p t tried xs)
 
 firsts_are : (xs : List Stmt) → firsts (map (λ d. (d, rests d)) xs) ≡ xs
 firsts_are [] = refl

@@ -7,7 +7,6 @@ use Rattle.pc_syntax.specs.Values.{State}
 use Rattle.pc_syntax.specs.declared.program.Program.{Program}
 use Rattle.pc_syntax.specs.declared.tree.Stmt.{Stmt}
 use Rattle.pc_graph.specs.Arc.{Arc}
-use Rattle.pc_graph.specs.Fit.{ProgramFits}
 use Rattle.pc_graph.specs.Lists.{In}
 use Rattle.pc_graph.specs.Lowering.{graph, made, no_steps}
 use Rattle.pc_graph.specs.Rest.{rest}
@@ -52,4 +51,4 @@ pub record SameSteps (p : Program) (s : State) : Type 0 where
   pub edges : EdgesAreSteps p
 
 abbrev pub StepsCorrespond : Type 0
-StepsCorrespond = (p : Program) (s : State) → ProgramFits p → IsEntry (graph p) s → SameSteps p s
+StepsCorrespond = (p : Program) (s : State) → IsEntry (graph p) s → SameSteps p s

@@ -1,7 +1,6 @@
 pub mod Lists
 pub mod Arc
 pub mod Flow
-pub mod Fit
 pub mod Ways
 pub mod Lowering
 pub mod Rest
