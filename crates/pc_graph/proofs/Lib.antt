@@ -5,3 +5,7 @@ pub mod Unrolled
 pub mod Tied
 pub mod Pieces
 pub mod Rules
+pub mod Bridge
+pub mod Carrying
+pub mod Closed
+pub mod Witness

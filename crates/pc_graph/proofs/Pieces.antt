@@ -8,11 +8,11 @@ use Rattle.pc_syntax.specs.Machine.{Going, Violated, step}
 use Rattle.pc_syntax.specs.Values.{State}
 use Rattle.pc_syntax.specs.declared.tree.Stmt.{Stmt}
 use Rattle.pc_graph.specs.Arc.{What, Test, Arc, arc}
-use Rattle.pc_graph.specs.Corresponds.{IsNoStep, IsStep}
+use Rattle.pc_graph.specs.Corresponds.{IsNoStep}
 use Rattle.pc_graph.specs.Lists.{AnyOf, In}
-use Rattle.pc_graph.specs.Lowering.{tests, Piece, one}
+use Rattle.pc_graph.specs.Lowering.{tests, one}
 use Rattle.pc_graph.specs.Walk.{Pass, Keeps}
-use Rattle.pc_graph.proofs.Tied.{Holds, ArcOk, Fired, Simulates, fires, joins, Tied}
+use Rattle.pc_graph.proofs.Tied.{Holds, ArcOk, Fired, Simulates, fires, Tied}
 
 pub holds_left : (ρ : ℕ → List Stmt) (n : ℕ) (xs ys : List (List Stmt)) → Holds ρ n (xs ++ ys) → Holds ρ n xs
 holds_left ρ n [] ys h = tt
@@ -40,13 +40,15 @@ arc_ok ρ js p q w k l pos_q ep eq moves asks =
 pub tests_ok : (g : List Arc) (ρ : ℕ → List Stmt) (js : List Arc) (p q : ℕ) (ws : List (List Linear)) (k l : List Stmt) → 0 < q → ρ p ≡ k → ρ q ≡ l → Simulates g ρ q →
     ((s : State) → Each (λ w. MeetsAll s w → (c : ℤ) × (step k s c ≡ Going l s)) ws) → Each (λ e. ArcOk ρ js e × Simulates g ρ e.to) (tests p q ws)
 tests_ok g ρ js p q [] k l pos_q ep eq sim h = tt
-tests_ok g ρ js p q (w ∷ ws) k l pos_q ep eq sim h =
-    (
-      (arc_ok ρ js p q (Test w) k l pos_q ep eq
-      (λ s t m. let c = (h s).0 m.0 in (c.0, c.1 ∙ ap (λ z. Going l z) (sym m.1)))
-      (λ s. inl tt), sim),
-      tests_ok g ρ js p q ws k l pos_q ep eq sim (λ s. (h s).1),
-    )
+tests_ok g ρ js p q (w ∷ ws) k l pos_q ep eq sim h = (
+  (
+    arc_ok ρ js p q (Test w) k l pos_q ep eq
+        (λ s t m. let c = (h s).0 m.0 in (c.0, c.1 ∙ ap (λ z. Going l z) (sym m.1)))
+        (λ s. inl tt),
+    sim,
+  ),
+  tests_ok g ρ js p q ws k l pos_q ep eq sim (λ s. (h s).1),
+)
 
 pub tests_fire : (g : List Arc) (ρ : ℕ → List Stmt) (p q : ℕ) (ws : List (List Linear)) (l : List Stmt) (s : State) → ρ q ≡ l →
     Each (λ e. In e g) (tests p q ws) → AnyOf (MeetsAll s) ws → Fired g ρ p s (Going l s)

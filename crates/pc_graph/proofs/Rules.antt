@@ -1,5 +1,5 @@
 -- Each rule of the graph keeps to the machine.
-use Rattle.std.proofs.Common.{◌≡◌, ℕ, ◌+◌, ◌<◌, ◌≤◌, ℤ, pos, ◌≤ℤ◌, ◌+ℤ◌, List, [], ◌∷◌, ◌++◌, length, Bool, true, false, cond, refl, sym, ap, subst, ◌∙◌, arith, inl, inr, map, length-append, int_le}
+use Rattle.std.proofs.Common.{◌≡◌, ℕ, ◌+◌, ◌<◌, ℤ, pos, ◌≤ℤ◌, ◌+ℤ◌, List, [], ◌∷◌, ◌++◌, length, Bool, true, false, cond, refl, sym, ap, subst, ◌∙◌, arith, inl, inr, map, length-append, int_le}
 use Rattle.std.specs.Prelude.{◌⊎◌, ◌&&◌, slice_set, nat_lt, Option, Some, None}
 use Rattle.std.specs.List.{AllByRecursion as Each}
 use Rattle.std.proofs.lemmas.Int.{ints}
@@ -7,7 +7,7 @@ use Rattle.pc_text.specs.declared.place.Place.{Place}
 use Rattle.pc_grammar.specs.declared.tree.Bound.{Bound}
 use Rattle.pc_grammar.specs.declared.tree.Bound.TheVariants as bound
 use Rattle.pc_grammar.specs.declared.tree.Choice.{Choice}
-use Rattle.pc_rows.specs.Linear.{Linear, value, MeetsAll}
+use Rattle.pc_rows.specs.Linear.{value, MeetsAll}
 use Rattle.pc_syntax.specs.Forms.{form, rows_all}
 use Rattle.pc_syntax.specs.Machine.{Going, Violated, Blocked, step, end_of, clamped, drawn}
 use Rattle.pc_syntax.specs.Forms.{is_affine, in_range}
@@ -18,12 +18,12 @@ use Rattle.pc_syntax.specs.declared.tree.Right.{Right}
 use Rattle.pc_syntax.specs.declared.tree.Test.{Test as Condition}
 use Rattle.pc_syntax.specs.declared.tree.Stmt.{Stmt, roll-Stmt, fold-roll-Stmt}
 use Rattle.pc_syntax.specs.declared.tree.Stmt.TheOpen as stmt
-use Rattle.pc_graph.specs.Arc.{What, Test, Set, Check, Arc, arc}
-use Rattle.pc_graph.specs.Corresponds.{IsNoStep, IsStep}
-use Rattle.pc_graph.specs.Lists.{AnyOf, In}
+use Rattle.pc_graph.specs.Arc.{Test, Check, Arc, arc}
+use Rattle.pc_graph.specs.Corresponds.{IsNoStep}
+use Rattle.pc_graph.specs.Lists.{In}
 use Rattle.pc_graph.specs.Lowering.{Piece, Rule, one, tests, join_edges, split, loop, low_end, high_end, assigned, rule, rule_step, rules}
 use Rattle.pc_graph.specs.Rest.{rests, rests_of}
-use Rattle.pc_graph.specs.Walk.{Pass, Keeps}
+use Rattle.pc_graph.specs.Walk.{Pass}
 use Rattle.pc_graph.specs.Ways.{ways}
 use Rattle.pc_syntax.proofs.FormLemmas.{forms_are_right}
 use Rattle.pc_syntax.proofs.Results.{and_is}
@@ -31,7 +31,7 @@ use Rattle.pc_graph.proofs.Lists.{each_left, each_right, each_join, each_more}
 use Rattle.pc_graph.proofs.Tests.{ways_sound, ways_complete, holds_meets, meets_holds}
 use Rattle.pc_graph.proofs.Tied.{Holds, ArcOk, Fired, Simulates, joins, Tied}
 use Rattle.pc_graph.proofs.Unrolled.{step-set, step-if, step-while, step-assert, step-assume, rule-if, rule-while, sane-if, sane-while, rests-if, rests-while, rests-set, rests-assert, rests-assume}
-use Rattle.pc_graph.proofs.Pieces.{holds_left, holds_right, fires_at, arc_ok, tests_ok, tests_fire, join_ok, join_skips, one_tied}
+use Rattle.pc_graph.proofs.Pieces.{holds_left, holds_right, fires_at, tests_ok, tests_fire, join_ok, join_skips, one_tied}
 
 -- ---- the choice of an assignment
 
@@ -76,7 +76,7 @@ module _ (vars : ℕ) (g : List Arc) (ρ : ℕ → List Stmt) (js : List Arc) wh
   ties_by : (x : Stmt) (b c : Bool) (l m : Rule) (r q : List Stmt → List (List Stmt)) → b ≡ c → l ≡ m → ((k : List Stmt) → r k ≡ q k) → Ties x c m q → Ties x b l r
   ties_by x b c l m r q eb el er h p n k s pos_p pos_n e hold ins jns =
       let f = h p n k (sym eb ∙ s) pos_p pos_n e (subst (λ z. Holds ρ n z) (er k) hold) (subst (λ (z : Rule). Each (λ e. In e g) (z p n).edges) el ins)
-            (subst (λ (z : Rule). Each (λ e. In e js) (z p n).joins) el jns) in
+      (subst (λ (z : Rule). Each (λ e. In e js) (z p n).joins) el jns) in
       let f2 = subst (λ (z : List (List Stmt)). Tied g ρ js p n k (length z) (m p n)) (sym (er k)) f in
       subst (λ (z : Rule). Tied g ρ js p n k (length (r k)) (z p n)) (sym el) f2
 
@@ -87,10 +87,10 @@ module _ (vars : ℕ) (g : List Arc) (ρ : ℕ → List Stmt) (js : List Arc) wh
       let b = and_is (sane_stmt vars x) (sane_stmts vars ss) s in
       let a = rule x p n in
       let f = all.0 p n (ss ++ k) b.0 pos_p pos_n e (holds_left ρ n (rests x (ss ++ k)) (rests_of ss k) hold)
-            (each_left (λ e. In e g) a.edges (rules ss a.last a.next).edges ins) (each_left (λ e. In e js) a.joins (rules ss a.last a.next).joins jns) in
+      (each_left (λ e. In e g) a.edges (rules ss a.last a.next).edges ins) (each_left (λ e. In e js) a.joins (rules ss a.last a.next).joins jns) in
       let pos_m : 0 < a.next = let q = f.next in omega arith in
       let h = list_ties ss all.1 a.last a.next k b.1 f.last pos_m f.rest (holds_right ρ n a.next (rests x (ss ++ k)) (rests_of ss k) f.next hold)
-            (each_right (λ e. In e g) a.edges (rules ss a.last a.next).edges ins) (each_right (λ e. In e js) a.joins (rules ss a.last a.next).joins jns) in
+      (each_right (λ e. In e g) a.edges (rules ss a.last a.next).edges ins) (each_right (λ e. In e js) a.joins (rules ss a.last a.next).joins jns) in
       record {
         next = let q = f.next in let q' = h.next in omega (arith, length-append (rests x (ss ++ k)) (rests_of ss k));
         last = h.last;
@@ -109,9 +109,11 @@ module _ (vars : ℕ) (g : List Arc) (ρ : ℕ → List Stmt) (js : List Arc) wh
   set_moves : (place : Place) (v : ℕ) (r : Right) (k : List Stmt) → sane_right vars r ≡ true → (s t : State) → Pass (assigned v r) s t →
       (c : ℤ) × (step (roll-Stmt (stmt.Set place v r) ∷ k) s c ≡ Going k t)
   set_moves place v r k ok s t m =
-      let f = form_value r ok s in
-      (m.0, step-set place v r k s m.0 ∙ ap (λ z. Going k (slice_set s v (z +ℤ drawn r.choice m.0))) (sym f) ∙
-        ap (λ z. Going k (slice_set s v (value (form r.expr) s +ℤ z))) (drawn_is r.choice m.0 m.1 m.2) ∙ ap (λ z. Going k z) (sym m.3))
+      let f = form_value r ok s in (
+        m.0,
+        step-set place v r k s m.0 ∙ ap (λ z. Going k (slice_set s v (z +ℤ drawn r.choice m.0))) (sym f) ∙
+            ap (λ z. Going k (slice_set s v (value (form r.expr) s +ℤ z))) (drawn_is r.choice m.0 m.1 m.2) ∙ ap (λ z. Going k z) (sym m.3),
+      )
 
   set_fired : (place : Place) (v : ℕ) (r : Right) (p n : ℕ) (k : List Stmt) → sane_right vars r ≡ true → ρ n ≡ k → In (arc p n (assigned v r)) g →
       (s : State) (c : ℤ) → Fired g ρ p s (step (roll-Stmt (stmt.Set place v r) ∷ k) s c)
@@ -125,9 +127,9 @@ module _ (vars : ℕ) (g : List Arc) (ρ : ℕ → List Stmt) (js : List Arc) wh
   set_ties place v r = ties_by (roll-Stmt (stmt.Set place v r)) _ (nat_lt v vars && sane_right vars r) _ (one place (assigned v r)) _ (λ k. k ∷ [])
       (fold-roll-Stmt Bool (sane_step vars) (stmt.Set place v r)) (fold-roll-Stmt Rule rule_step (stmt.Set place v r)) (rests-set place v r)
       (λ p n k s0 pos_p pos_n e hold ins jns.
-          let ok = (and_is (nat_lt v vars) (sane_right vars r) s0).1 in
-          one_tied g ρ js place (assigned v r) p n (roll-Stmt (stmt.Set place v r) ∷ k) k pos_n e hold.0
-          (set_moves place v r k ok) (λ s. inl tt) (set_fired place v r p n k ok hold.0 ins.0))
+      let ok = (and_is (nat_lt v vars) (sane_right vars r) s0).1 in
+      one_tied g ρ js place (assigned v r) p n (roll-Stmt (stmt.Set place v r) ∷ k) k pos_n e hold.0
+      (set_moves place v r k ok) (λ s. inl tt) (set_fired place v r p n k ok hold.0 ins.0))
 
   check_asks : (place : Place) (cs : List Compare) (k : List Stmt) (s : State) → sane_all vars cs ≡ true → (b : Bool) → all_hold cs s ≡ b →
       MeetsAll s (rows_all cs) ⊎ ((q : Place) × (step (roll-Stmt (stmt.Assert place cs) ∷ k) s (pos 0) ≡ Violated q))
@@ -280,7 +282,7 @@ module _ (vars : ℕ) (g : List Arc) (ρ : ℕ → List Stmt) (js : List Arc) wh
         let hold2 = holds_right ρ (n + 1) body.next (rests_of xs again) (k ∷ []) a_next hold.1 in
         let pos_x : 0 < body.next = omega arith in
         let head = fires_at g ρ p again e (λ s c. subst (Fired g ρ p s) (sym (step-while place t tried xs k s c))
-            (side_fired t p n body.next (xs ++ again) k s c ok.0 hold.0 hold2.0 in_trues ins2.1 (chosen t s c) refl)) in
+        (side_fired t p n body.next (xs ++ again) k s c ok.0 hold.0 hold2.0 in_trues ins2.1 (chosen t s c) refl)) in
         let turn = joins p ins2.0 (a.rest ∙ sym e) head in
         record {
           next = omega (arith, length-append (rests_of xs again) (k ∷ []));
@@ -291,9 +293,10 @@ module _ (vars : ℕ) (g : List Arc) (ρ : ℕ → List Stmt) (js : List Arc) wh
               let Ok = λ (e : Arc). ArcOk ρ js e × Simulates g ρ e.to in
               each_join Ok trues (body.edges ++ (back ∷ falses))
               (tests_ok g ρ js p n (ways t true) again (xs ++ again) pos_n e hold.0 (a.begins turn) (λ s. side_chosen t true again (xs ++ again) k s ok.0 (λ c. step-while place t tried xs k s c)))
-              (each_join Ok body.edges (back ∷ falses) (a.edges turn)
-              (join_ok g ρ js body.last p pos_p jns.0 head,
-                tests_ok g ρ js p body.next (ways t false) again k pos_x e hold2.0 sim (λ s. side_chosen t false again (xs ++ again) k s ok.0 (λ c. step-while place t tried xs k s c))));
+              (each_join Ok body.edges (back ∷ falses) (a.edges turn) (
+                join_ok g ρ js body.last p pos_p jns.0 head,
+                tests_ok g ρ js p body.next (ways t false) again k pos_x e hold2.0 sim (λ s. side_chosen t false again (xs ++ again) k s ok.0 (λ c. step-while place t tried xs k s c)),
+              ));
           skips = (join_skips ρ body.last p (a.rest ∙ sym e), a.skips);
         }
 

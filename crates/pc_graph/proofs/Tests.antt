@@ -1,5 +1,5 @@
 -- The edges of a test: where it holds, and where it fails.
-use Rattle.std.proofs.Common.{◌≡◌, ℕ, ◌+◌, ℤ, pos, ◌≤ℤ◌, List, [], ◌∷◌, ◌++◌, length, Bool, true, false, refl, sym, ap, subst, ◌∙◌, arith, inl, inr}
+use Rattle.std.proofs.Common.{◌≡◌, ℕ, ℤ, pos, List, [], ◌∷◌, ◌++◌, length, Bool, true, false, refl, sym, ap, ◌∙◌, arith, inl, inr}
 use Rattle.std.specs.Prelude.{◌⊎◌, ◌&&◌, not, nat_le}
 use Rattle.std.specs.Ordering.{int_eq}
 use Rattle.std.specs.List.{AllByRecursion as Each, list_all}
@@ -13,7 +13,7 @@ use Rattle.pc_syntax.specs.Values.{State, holds, all_hold, chosen}
 use Rattle.pc_syntax.specs.declared.tree.Compare.{Compare}
 use Rattle.pc_syntax.specs.declared.tree.Test.{Test}
 use Rattle.pc_syntax.specs.declared.tree.Test.TheVariants as test
-use Rattle.pc_syntax.proofs.Results.{and_is, and_of, not_true}
+use Rattle.pc_syntax.proofs.Results.{and_is, and_of}
 use Rattle.pc_syntax.proofs.RowLemmas.{conjunctions_are_rows, unequals_are_rows}
 use Rattle.pc_graph.specs.Lists.{AnyOf}
 use Rattle.pc_graph.specs.Ways.{is_lone, apart, ways_of, ways}

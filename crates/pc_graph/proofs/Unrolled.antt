@@ -1,5 +1,5 @@
 -- What the folds say of each kind of statement.
-use Rattle.std.proofs.Common.{◌≡◌, ℕ, ◌+◌, ℤ, List, [], ◌∷◌, ◌++◌, Bool, true, false, refl, sym, ap, subst, ◌∙◌, map, cond}
+use Rattle.std.proofs.Common.{◌≡◌, ℕ, ℤ, List, [], ◌∷◌, ◌++◌, Bool, refl, ap, ◌∙◌, map, cond}
 use Rattle.std.specs.Prelude.{◌&&◌, slice_set, ◌+ℤ◌}
 use Rattle.pc_text.specs.declared.place.Place.{Place}
 use Rattle.pc_syntax.specs.Machine.{step, Going, Violated, Blocked, drawn}
@@ -8,9 +8,9 @@ use Rattle.pc_syntax.specs.Values.{State, value_of, all_hold, chosen}
 use Rattle.pc_syntax.specs.declared.tree.Compare.{Compare}
 use Rattle.pc_syntax.specs.declared.tree.Right.{Right}
 use Rattle.pc_syntax.specs.declared.tree.Test.{Test}
-use Rattle.pc_syntax.specs.declared.tree.Stmt.{Stmt, Stmt-F, roll-Stmt, out-roll-Stmt, fold-roll-Stmt, para-roll-Stmt}
+use Rattle.pc_syntax.specs.declared.tree.Stmt.{Stmt, roll-Stmt, out-roll-Stmt, fold-roll-Stmt, para-roll-Stmt}
 use Rattle.pc_syntax.specs.declared.tree.Stmt.TheOpen as stmt
-use Rattle.pc_graph.specs.Lowering.{Rule, rule, rule_step, rules}
+use Rattle.pc_graph.specs.Lowering.{Rule, rule, rule_step}
 use Rattle.pc_graph.specs.Rest.{Rests, rests, rests_step, rests_in_order, rests_of, firsts}
 
 pub step-set : (p : Place) (v : ℕ) (r : Right) (k : List Stmt) (s : State) (c : ℤ) →

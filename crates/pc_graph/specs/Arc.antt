@@ -1,9 +1,9 @@
 -- Edges, as contracts see them.
-use Rattle.std.specs.Prelude.{ℕ, ◌<◌, ◌≤◌, ◌≤ℤ◌, List, length}
+use Rattle.std.specs.Prelude.{ℕ, ◌<◌, ◌≤◌, ◌≤ℤ◌, length}
 use Rattle.pc_grammar.specs.declared.tree.Bound.{Bound}
 use Rattle.pc_syntax.specs.Machine.{end_of}
 use Rattle.pc_rows.specs.declared.row.TheConstants.{VARIABLES}
-use Rattle.pc_rows.specs.Linear.{Linear, InRange}
+use Rattle.pc_rows.specs.Linear.{InRange}
 pub use Rattle.pc_graph.specs.declared.what.What.{What}
 pub use Rattle.pc_graph.specs.declared.what.What.TheVariants.{Enter, Test, Set, Check}
 use Rattle.pc_graph.specs.declared.what.TheConstants.{TEST_ROWS}

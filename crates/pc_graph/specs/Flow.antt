@@ -1,5 +1,5 @@
 -- Graphs, as contracts see them.
-use Rattle.std.specs.Prelude.{ℕ, List, Bool, length}
+use Rattle.std.specs.Prelude.{ℕ, List, Bool}
 use Rattle.pc_graph.specs.declared.point.PointInfo.{PointInfo}
 use Rattle.pc_graph.specs.Arc.{Arc}
 

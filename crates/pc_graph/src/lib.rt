@@ -7,6 +7,9 @@ mod point;
 mod what;
 
 pub use edge::Edge;
-pub use laws::{broken_has_walk, carrying_is_exact, owed_is_enough, owed_is_needed, paid_is_safe, steps_correspond};
+pub use laws::{
+    broken_has_walk, carrying_is_exact, owed_is_enough, owed_is_needed, paid_is_safe,
+    steps_correspond,
+};
 pub use point::PointInfo;
 pub use what::{TEST_ROWS, What};

@@ -8,7 +8,9 @@ pub const TEST_ROWS: usize = 16;
 #[derive(Drop)]
 pub enum What {
     /// The entry: the variables from number `params` on become 0.
-    Enter { params: u32 },
+    Enter {
+        params: u32,
+    },
     /// Passed where all rows are at least 0.
     Test(Rows),
     /// The variable becomes the value of the form plus some integer from `lo` to `hi`. Without a choice both are 0.
