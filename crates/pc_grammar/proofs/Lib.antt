@@ -1,0 +1,17 @@
+pub mod Laws
+pub mod Series
+pub mod Sets
+pub mod Expressions
+pub mod Chains
+pub mod Rights
+pub mod Statements
+pub mod Programs
+pub mod Loops
+pub mod Turns
+pub mod Counting
+pub mod Depths
+pub mod Whole
+pub mod Scans
+pub mod Sound
+pub mod Unique
+pub mod Spans

@@ -1,13 +1,16 @@
-ghost use Rattle.std.specs.Prelude.{◌≡◌, ◌≢◌, ◌-ℤ◌, int_div, int_rem, ℤ, pos, ◌+ℤ◌, ◌*ℤ◌, neg_ℤ, OkIff, int_le};
-ghost use Rattle.pc_rows.specs.Linear.{InRange, is_zero, lesser};
+//! Numbers of at most 127 bits beside their sign, so that each has its opposite.
+
+ghost use Rattle.std.specs.Prelude.{◌≡◌, ℤ, pos, ◌+ℤ◌, ◌-ℤ◌, ◌*ℤ◌, neg_ℤ, OkIff, int_le};
+ghost use Rattle.pc_rows.specs.Linear.{InRange, is_zero};
+ghost use Rattle.pc_rows.specs.Substitution.{lesser};
 
 use std::marker::Model;
 
-/// A result that is not in range.
+/// A result that is not in range: its absolute value is over 2^127 - 1.
 #[derive(Clone, Copy, Debug, PartialEq, Eq)]
 pub struct Past;
 
-/// A number in range.
+/// An integer from -(2^127 - 1) to 2^127 - 1.
 #[derive(Clone, Copy, Debug, PartialEq, Eq)]
 pub struct Number {
     n: i128,
@@ -41,6 +44,7 @@ impl Number {
         self.n
     }
 
+    /// The sum.
     pub fn plus(self, other: Number) -> Result<Number, Past>
         ensures { OkIff result (InRange (self +ℤ other)) (self +ℤ other) }
     {
@@ -50,30 +54,7 @@ impl Number {
         }
     }
 
-    pub fn times(self, other: Number) -> Result<Number, Past>
-        ensures { OkIff result (InRange (self *ℤ other)) (self *ℤ other) }
-    {
-        match self.n.checked_mul(other.n) {
-            Some(n) if n != i128::MIN => Ok(Number { n }),
-            _ => Err(Past),
-        }
-    }
-
-    /// The quotient where it is whole.
-    pub fn over(self, d: Number) -> Result<Number, Past>
-        requires { d ≢ pos 0 }
-        ensures { OkIff result ((int_rem self d ≡ pos 0) × InRange (int_div self d)) (int_div self d) }
-    {
-        if self.n % d.n != 0 {
-            return Err(Past);
-        }
-        let n = self.n / d.n;
-        if n == i128::MIN {
-            return Err(Past);
-        }
-        Ok(Number { n })
-    }
-
+    /// The difference.
     pub fn minus(self, other: Number) -> Result<Number, Past>
         ensures { OkIff result (InRange (self -ℤ other)) (self -ℤ other) }
     {
@@ -83,6 +64,28 @@ impl Number {
         }
     }
 
+    /// The number `self - other - 1`, which is at least 0 exactly where `self` is above `other`.
+    /// The difference alone may be out of range where this number is not.
+    pub fn above(self, other: Number) -> Result<Number, Past>
+        ensures { OkIff result (InRange (self -ℤ other -ℤ pos 1)) (self -ℤ other -ℤ pos 1) }
+    {
+        match (self.n - 1).checked_sub(other.n) {
+            Some(n) if n != i128::MIN => Ok(Number { n }),
+            _ => Err(Past),
+        }
+    }
+
+    /// The product.
+    pub fn times(self, other: Number) -> Result<Number, Past>
+        ensures { OkIff result (InRange (self *ℤ other)) (self *ℤ other) }
+    {
+        match self.n.checked_mul(other.n) {
+            Some(n) if n != i128::MIN => Ok(Number { n }),
+            _ => Err(Past),
+        }
+    }
+
+    /// The opposite.
     pub fn negated(self) -> Number
         ensures value { result ≡ neg_ℤ self }
         ensures range { InRange result }
@@ -90,6 +93,7 @@ impl Number {
         Number { n: -self.n }
     }
 
+    /// The lesser of the two.
     pub fn min(self, other: Number) -> Number
         ensures { result ≡ lesser self other }
     {

@@ -1,21 +1,30 @@
-ghost use Rattle.std.specs.Prelude.{◌≡◌, ◌≢◌, ◌++◌, ◌∷◌, [], ◌<◌, ◌≤◌, ◌↔◌, length, slice_get, IfOk, OnOk, OnErr, MatchResult, Some, slice_index_or};
-ghost use Rattle.pc_rows.specs.Linear.{is_covered, is_at_most};
-ghost use Rattle.std.specs.List.{list_any};
-ghost use Rattle.pc_rows.specs.Joins.{PushIs, AddIs, JoinIs};
+//! Lists of rows.
+
+ghost use Rattle.std.specs.Prelude.{◌≡◌, ◌<◌, ◌≤◌, [], length, slice_get, IfOk, Some};
+ghost use Rattle.std.specs.List.{AllByRecursion, list_any};
+ghost use Rattle.pc_rows.specs.Linear.{IsRow};
+ghost use Rattle.pc_rows.specs.Joins.{is_at_most, is_covered, PushIs, AddIs, JoinIs};
 
 use crate::row::Row;
-use std::alloc::{AllocError, Global};
+use std::alloc::Global;
 use std::marker::Model;
 
+/// The most rows that a list holds.
 pub const ROWS: usize = 32;
 
+/// Why a list of rows has no further row.
 #[derive(Clone, Copy, Debug, PartialEq, Eq)]
 pub enum RowsFault {
+    /// It has `ROWS` rows.
     Full,
     NoMemory,
 }
 
-/// At most `ROWS` rows.
+/// There is no memory for a copy.
+#[derive(Clone, Copy, Debug, PartialEq, Eq)]
+pub struct NoMemory;
+
+/// At most `ROWS` rows, in order.
 #[derive(Drop)]
 pub struct Rows {
     alloc: Global,
@@ -23,18 +32,19 @@ pub struct Rows {
 }
 
 impl Model for Rows {
-    ghost use Rattle.std.specs.Prelude.{List, length, ◌≤◌};
+    ghost use Rattle.std.specs.Prelude.{List};
     ghost use Rattle.pc_rows.specs.Linear.{Linear};
-    ghost use Rattle.pc_rows.specs.declared.rows.TheConstants.{ROWS};
+    ghost use Rattle.pc_rows.specs.Joins.{IsRows};
 
     ghost Value = { List Linear };
 
     ghost view = { λ r. r.rows.items };
 
-    ghost invariant = { λ r. length r.rows.items ≤ ROWS };
+    ghost invariant = { λ r. IsRows r.rows.items };
 }
 
 impl Rows {
+    /// No rows. It needs no memory; what is pushed later, and each copy, is taken from `alloc`.
     pub fn new(alloc: Global) -> Rows
         ensures { result ≡ [] }
     {
@@ -47,6 +57,7 @@ impl Rows {
     pub fn len(&self) -> usize
         ensures value { result ≡ length self.now }
         ensures most { length self.now ≤ ROWS }
+        ensures rows { AllByRecursion IsRow self.now }
     {
         self.rows.len()
     }
@@ -58,6 +69,8 @@ impl Rows {
         &self.rows[i]
     }
 
+    /// Puts a row at the end. `Full` exactly where there are `ROWS` rows, whatever the memory;
+    /// after a refusal the list is as before.
     pub fn push(&mut self, r: Row) -> Result<(), RowsFault>
         ensures { PushIs self.old r result self.new }
     {
@@ -70,45 +83,56 @@ impl Rows {
         }
     }
 
-    pub fn covers(&self, r: &Row) -> bool
-        ensures value { result ≡ is_covered r.now self.now }
-        ensures most { length self.now ≤ ROWS }
-    {
-        r.is_always() || any_is_at_most(&self.rows, r)
-    }
-
-    pub fn copy(&self) -> Result<Rows, RowsFault>
-        ensures { MatchResult result (λ j. j ≡ self.now) (λ e. e ≡ RowsFault.NoMemory) }
+    /// The same rows, from the same allocator.
+    pub fn copy(&self) -> Result<Rows, NoMemory>
+        ensures { IfOk result (λ rows. rows ≡ self.now) }
     {
         let mut rows = Rows::new(self.alloc);
         for r in &self.rows {
-            rows.push(r.copy())?;
+            match rows.push(r.copy()) {
+                Ok(()) => {}
+                Err(_) => return Err(NoMemory),
+            }
         }
         Ok(rows)
     }
 }
 
-fn any_is_at_most(rows: &[Row], r: &Row) -> bool
+/// Whether `r` is covered by `rows`: every state meets it by its form, or one of the rows has the
+/// same coefficients and a constant that is not greater.
+pub fn covered(r: &Row, rows: &Rows) -> bool
+    ensures value { result ≡ is_covered r.now rows.now }
+    ensures most { length rows.now ≤ ROWS }
+{
+    r.is_always() || some_is_at_most(&rows.rows, r)
+}
+
+fn some_is_at_most(rows: &[Row], r: &Row) -> bool
     ensures { result ≡ list_any (λ a. is_at_most a r.now) rows.now }
 {
     rows.iter().any(|a| a.is_at_most(r))
 }
 
-fn add(all: &mut Rows, r: &Row) -> Result<(), RowsFault>
-    ensures { AddIs all.old r.now result all.new }
-{
-    if all.covers(r) {
-        return Ok(());
-    }
-    all.push(r.copy())
-}
-
+/// The rows of `a`, and then each row of `b` that is not covered by what stands before it. `Full`
+/// exactly where these are more than `ROWS` rows.
 pub fn join(a: &Rows, b: &Rows) -> Result<Rows, RowsFault>
     ensures { JoinIs a.now b.now result }
 {
-    let mut all = a.copy()?;
+    let mut all = match a.copy() {
+        Ok(all) => all,
+        Err(NoMemory) => return Err(RowsFault::NoMemory),
+    };
     for i in 0..b.len() {
         add(&mut all, b.at(i))?;
     }
     Ok(all)
+}
+
+fn add(all: &mut Rows, r: &Row) -> Result<(), RowsFault>
+    ensures { AddIs all.old r.now result all.new }
+{
+    if covered(r, all) {
+        return Ok(());
+    }
+    all.push(r.copy())
 }

@@ -6,40 +6,38 @@ use Rattle.std.proofs.lemmas.Int.{ints}
 use Rattle.std.proofs.lemmas.Bool.Decides.{nat_tests}
 use Rattle.std.proofs.Math.IntN.{zero-*ℤ}
 use Rattle.pc_text.specs.declared.place.Place.{Place}
-use Rattle.pc_rows.specs.Linear.{Linear, value, dot, sum_of, scaled_by, negate_list, add_lists, scale_list, is_zero, of_constant, with_coefficient}
+use Rattle.pc_rows.specs.Linear.{Linear, value, dot, sum_of, scaled_by, negate_list, add_lists, scale_list, is_zero, of_constant, with_coefficient, in_range, is_in_range, opposite_of, difference_of, above_of, is_number, fits}
 use Rattle.pc_rows.specs.declared.row.TheConstants.{VARIABLES}
 use Rattle.pc_rows.proofs.Ring.{mul_comm}
-use Rattle.pc_rows.proofs.Lists.{dot-add_lists, dot-set, length-add_lists, length-scale_list, length-negate_list}
-use Rattle.pc_rows.proofs.Farkas.{value-sum, value-scaled, value-negation}
-use Rattle.pc_rows.proofs.Law.{zero_is}
+use Rattle.pc_rows.proofs.Lists.{dot-set, dot-zero}
+use Rattle.pc_rows.proofs.Values.{value-constant, value-sum, value-difference, value-scaled}
 use Rattle.pc_syntax.specs.declared.tree.Expr.{Expr, Expr-F, fold-Expr, fold-roll-Expr}
 use Rattle.pc_syntax.specs.declared.tree.Expr.TheOpen as expr
 use Rattle.pc_syntax.specs.declared.normal.AffineFault.{AffineFault}
 use Rattle.pc_syntax.specs.declared.normal.AffineFault.TheVariants.{NotAffine, Past}
 use Rattle.pc_syntax.specs.Values.{State, value_step, value_of}
-use Rattle.pc_syntax.specs.Forms.{bind, in_range, is_in_range, opposite_of, difference_of, above_of, fits, is_number, variable, product, form_step, form_of, fit_step, is_fit, is_affine, ok_or, form}
+use Rattle.pc_syntax.specs.Forms.{bind, variable, product, form_step, form_of, fit_step, is_fit, is_affine, ok_or, form}
 use Rattle.pc_syntax.specs.Laws.{IsFormOf, IsAffine, FormsAreRight}
 use Rattle.pc_syntax.proofs.Results.{and_is, and_of, bind_keeps, if_keeps}
 use Rattle.pc_syntax.proofs.Exprs.{by_cases}
 
-dot-negate_list : (a s : List ℤ) → dot (negate_list a) s ≡ neg_ℤ (dot a s)
-dot-negate_list a s = let e = value-negation (record { constant = pos 0; coefficients = a }) s in omega (arith, ints)
-
-pub value-difference : (a b : Linear) (s : State) → value (difference_of a b) s ≡ value a s -ℤ value b s
-value-difference a b s =
-    let e = dot-add_lists a.coefficients (negate_list b.coefficients) s in
-    let f = dot-negate_list b.coefficients s in
-    omega (arith, ints)
-
 pub value-above : (a b : Linear) (s : State) → value (above_of a b) s ≡ value a s -ℤ value b s -ℤ pos 1
 value-above a b s = let e = value-difference a b s in omega (arith, ints)
 
-dot-zero : (a s : List ℤ) → list_all is_zero a ≡ true → dot a s ≡ pos 0
-dot-zero [] s h = refl
-dot-zero (a ∷ as') [] h = refl
-dot-zero (a ∷ as') (x ∷ s) h =
-    let p = and_is (is_zero a) (list_all is_zero as') h in
-    rw (zero_is a p.0, dot-zero as' s p.1) (let z = zero-*ℤ x in omega (arith, ints))
+-- ---- lengths
+
+length-add_lists : (a b : List ℤ) → length a ≡ length b → length (add_lists a b) ≡ length a
+length-add_lists [] b e = sym e
+length-add_lists (a ∷ as') [] e = refl
+length-add_lists (a ∷ as') (b ∷ bs) e = ap suc (length-add_lists as' bs (omega arith))
+
+length-scale_list : (k : ℤ) (a : List ℤ) → length (scale_list k a) ≡ length a
+length-scale_list k [] = refl
+length-scale_list k (a ∷ as') = ap suc (length-scale_list k as')
+
+length-negate_list : (a : List ℤ) → length (negate_list a) ≡ length a
+length-negate_list [] = refl
+length-negate_list (a ∷ as') = ap suc (length-negate_list as')
 
 -- ---- numbers and variables
 

@@ -2,3 +2,8 @@ pub mod Results
 pub mod Exprs
 pub mod FormLemmas
 pub mod RowLemmas
+pub mod Trees
+pub mod Folds
+pub mod WalkedExprs
+pub mod WalkedTests
+pub mod WalkedStmts

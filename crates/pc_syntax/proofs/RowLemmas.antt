@@ -5,16 +5,16 @@ use Rattle.std.specs.List.{list_all}
 use Rattle.std.specs.Ordering.{int_eq}
 use Rattle.std.proofs.lemmas.Int.{ints, by_lt_z}
 use Rattle.std.proofs.lemmas.Bool.Decides.{Decides-int_eq}
-use Rattle.pc_rows.specs.Linear.{Linear, value, Meets, MeetsAll, negation}
-use Rattle.pc_rows.proofs.Farkas.{value-negation}
+use Rattle.pc_rows.specs.Linear.{Linear, value, Meets, MeetsAll, difference_of, above_of, negation}
+use Rattle.pc_rows.proofs.Values.{value-difference, value-negation}
 use Rattle.pc_grammar.specs.declared.tree.Op.{Op}
 use Rattle.pc_grammar.specs.declared.tree.Op.TheVariants as op
 use Rattle.pc_syntax.specs.declared.tree.Compare.{Compare}
 use Rattle.pc_syntax.specs.Values.{State, value_of, compared, holds, all_hold}
-use Rattle.pc_syntax.specs.Forms.{difference_of, above_of, form, is_affine, is_unequal, has_rows, is_plain, rows_by, rows_of, rows_all}
+use Rattle.pc_syntax.specs.Forms.{form, is_affine, is_unequal, has_rows, is_plain, rows_by, rows_of, rows_all}
 use Rattle.pc_syntax.specs.Laws.{SomeMet, UnequalIsRows, ComparisonsAreRows, ConjunctionsAreRows, UnequalsAreRows}
 use Rattle.pc_syntax.proofs.Results.{and_is, and_of, not_true}
-use Rattle.pc_syntax.proofs.FormLemmas.{value-difference, value-above, forms_are_right}
+use Rattle.pc_syntax.proofs.FormLemmas.{value-above, forms_are_right}
 
 -- ---- single rows
 

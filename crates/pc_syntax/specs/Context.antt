@@ -1,7 +1,7 @@
 -- The context rules: what a parse tree is a program of, in the order in which the rules are tested.
-use Rattle.std.specs.Prelude.{ℕ, ◌+◌, ◌==◌, nat_lt, int_lt, negsuc, List, [], ◌∷◌, ◌++◌, length, map, slice_range, Option, Some, None, is_some, Bool, true, false, ◌&&◌, not, Result, Ok, Err, if◌then◌else◌}
+use Rattle.std.specs.Prelude.{ℕ, ◌+◌, nat_lt, int_lt, negsuc, List, [], ◌∷◌, ◌++◌, length, map, slice_range, Option, Some, None, is_some, Bool, true, false, ◌&&◌, not, Result, Ok, Err, if◌then◌else◌}
 use Rattle.pc_text.specs.declared.place.Place.{Place}
-use Rattle.pc_rows.specs.Linear.{Linear, sum_of, scaled_by, of_constant}
+use Rattle.pc_rows.specs.Linear.{Linear, sum_of, difference_of, scaled_by, of_constant, fits}
 use Rattle.pc_rows.specs.declared.row.TheConstants.{VARIABLES}
 use Rattle.pc_grammar.specs.declared.symbol.Symbol.{Symbol}
 use Rattle.pc_grammar.specs.declared.tree.Op.{Op}
@@ -30,8 +30,12 @@ use Rattle.pc_syntax.specs.declared.tree.Right.{Right}
 use Rattle.pc_syntax.specs.declared.tree.Stmt.{Stmt}
 use Rattle.pc_syntax.specs.declared.tree.Stmt.TheVariants as s
 use Rattle.pc_syntax.specs.declared.program.Program.{Program}
-use Rattle.pc_syntax.specs.Named.{Bytes, Named, number_of}
-use Rattle.pc_syntax.specs.Forms.{bind, fits, product, variable, difference_of, is_unequal, rows_by, fit_rows}
+use Rattle.pc_syntax.specs.declared.walk.Formed.{Formed}
+use Rattle.pc_syntax.specs.declared.walk.Counted.{Counted}
+use Rattle.pc_syntax.specs.declared.walk.CountedList.{CountedList}
+use Rattle.pc_text.specs.Named.{Named, number_of}
+use Rattle.pc_text.specs.Bytes.{Bytes}
+use Rattle.pc_syntax.specs.Forms.{bind, product, variable, is_unequal, rows_by, fit_rows}
 use Rattle.pc_syntax.specs.Sane.{is_either}
 use Rattle.pc_syntax.specs.Machine.{end_of}
 
@@ -67,13 +71,14 @@ abbrev pub lifted : {A : Type 0} → Result A AffineFault → Result A SourceFau
 lifted (Ok x) = Ok x
 lifted (Err f) = Err (source_fault f)
 
--- an expression with its normal form
-pub record Formed : Type 0 where
-  pub expr : Expr
-  pub form : Linear
-
 abbrev pub formed : Expr → Result Linear AffineFault → Result Formed SourceFault
 formed x form = bind (lifted form) (λ r. Ok (record { expr = x; form = r }))
+
+-- a comparison without others
+abbrev pub is_alone : List CompareTree → Bool
+is_alone [] = false
+is_alone (c ∷ []) = true
+is_alone (c ∷ d ∷ cs) = false
 
 -- `!=` stands only where a comparison is alone
 abbrev pub op_allowed : Bool → CompareTree → Result (Unit {0}) SourceFault
@@ -99,15 +104,6 @@ rows_in (c ∷ cs) = (if is_either c.op then 2 else 1) + rows_in cs
 abbrev pub test_edges : TestTree → ℕ
 test_edges test.Any = 2
 test_edges (test.All cs) = 1 + rows_in cs
-
--- a statement, with the edges up to its end
-pub record Counted : Type 0 where
-  pub stmt : Stmt
-  pub edges : ℕ
-
-pub record CountedList : Type 0 where
-  pub stmts : List Stmt
-  pub edges : ℕ
 
 -- what a statement is after so many edges
 abbrev pub Walk : Type 0
@@ -153,27 +149,33 @@ module _ (src : Bytes) (names : List Bytes) where
 
   abbrev pub checked_test : TestTree → Result Test SourceFault
   checked_test test.Any = Ok t.Any
-  checked_test (test.All cs) = bind (checked_each (length cs == 1) cs) (λ xs. Ok (t.All xs))
+  checked_test (test.All cs) = bind (checked_each (is_alone cs) cs) (λ xs. Ok (t.All xs))
 
   abbrev pub checked_right : RightTree → Result Right SourceFault
   checked_right r =
       bind (checked_expr r.expr) (λ x. bind (checked_choice r.choice) (λ c. Ok (record { expr = x.expr; choice = c })))
+
+  abbrev pub split : Place → TestTree → (ℕ → Result CountedList SourceFault) → (ℕ → Result CountedList SourceFault) → Walk
+  split p test xs ys k =
+      bind (counted (test_edges test + 2) p k) (λ edges.
+      bind (checked_test test) (λ u.
+      bind (xs edges) (λ a.
+      bind (ys a.edges) (λ b. Ok (record { stmt = s.If p u a.stmts b.stmts; edges = b.edges })))))
+
+  abbrev pub loop : Place → TestTree → List CompareTree → (ℕ → Result CountedList SourceFault) → Walk
+  loop p test tried xs k =
+      bind (counted (test_edges test + 1) p k) (λ edges.
+      bind (checked_test test) (λ u.
+      bind (checked_all tried) (λ rs.
+      bind (xs edges) (λ a. Ok (record { stmt = s.While p u rs a.stmts; edges = a.edges })))))
 
   abbrev pub stmt_step : StmtTree-F Walk → Walk
   stmt_step (stmt.Set name right) k =
       bind (counted 1 name.place k) (λ edges.
       bind (resolved src names name) (λ v.
       bind (checked_right right) (λ x. Ok (record { stmt = s.Set name.place v x; edges = edges }))))
-  stmt_step (stmt.If p test xs ys) k =
-      bind (counted (test_edges test + 2) p k) (λ edges.
-      bind (checked_test test) (λ u.
-      bind (all_of xs edges) (λ a.
-      bind (all_of ys a.edges) (λ b. Ok (record { stmt = s.If p u a.stmts b.stmts; edges = b.edges })))))
-  stmt_step (stmt.While p test tried xs) k =
-      bind (counted (test_edges test + 1) p k) (λ edges.
-      bind (checked_test test) (λ u.
-      bind (checked_all tried) (λ rs.
-      bind (all_of xs edges) (λ a. Ok (record { stmt = s.While p u rs a.stmts; edges = a.edges })))))
+  stmt_step (stmt.If p test xs ys) k = split p test (all_of xs) (all_of ys) k
+  stmt_step (stmt.While p test tried xs) k = loop p test tried (all_of xs) k
   stmt_step (stmt.Assert p cs) k =
       bind (counted 1 p k) (λ edges. bind (checked_all cs) (λ xs. Ok (record { stmt = s.Assert p xs; edges = edges })))
   stmt_step (stmt.Assume p cs) k =

@@ -1,8 +1,8 @@
 -- Normal forms of expressions, and the rows of comparisons.
-use Rattle.std.specs.Prelude.{ℕ, ℤ, pos, negsuc, ◌-ℤ◌, ◌^◌, neg_ℤ, List, [], ◌∷◌, ◌++◌, Bool, true, false, ◌&&◌, not, nat_lt, is_ok, unsigned_abs, Result, Ok, Err, if◌then◌else◌}
+use Rattle.std.specs.Prelude.{ℕ, ℤ, pos, negsuc, List, [], ◌∷◌, ◌++◌, Bool, true, false, ◌&&◌, not, nat_lt, is_ok, Result, Ok, Err, if◌then◌else◌}
 use Rattle.std.specs.List.{list_all}
 use Rattle.pc_text.specs.declared.place.Place.{Place}
-use Rattle.pc_rows.specs.Linear.{Linear, sum_of, scaled_by, negation, negate_list, of_constant, with_coefficient, is_zero}
+use Rattle.pc_rows.specs.Linear.{Linear, sum_of, scaled_by, difference_of, above_of, negation, of_constant, with_coefficient, is_number, in_range, is_in_range, fits}
 use Rattle.pc_rows.specs.declared.row.TheConstants.{VARIABLES}
 use Rattle.pc_grammar.specs.declared.tree.Op.{Op}
 use Rattle.pc_grammar.specs.declared.tree.Op.TheVariants as op
@@ -16,29 +16,6 @@ use Rattle.pc_syntax.specs.declared.normal.AffineFault.TheVariants.{NotAffine, P
 abbrev pub bind : {A B E : Type 0} → Result A E → (A → Result B E) → Result B E
 bind (Ok x) f = f x
 bind (Err e) f = Err e
-
--- a number that rows may hold
-abbrev pub in_range : ℤ → Bool
-in_range z = nat_lt (unsigned_abs z) (2 ^ 127)
-
-abbrev pub is_in_range : Linear → Bool
-is_in_range r = in_range r.constant && list_all in_range r.coefficients
-
-abbrev pub opposite_of : Linear → Linear
-opposite_of r = record { constant = neg_ℤ r.constant; coefficients = negate_list r.coefficients }
-
-abbrev pub difference_of : Linear → Linear → Linear
-difference_of a b = sum_of a (opposite_of b)
-
-abbrev pub above_of : Linear → Linear → Linear
-above_of a b = record { constant = (difference_of a b).constant -ℤ pos 1; coefficients = (difference_of a b).coefficients }
-
-abbrev pub fits : {E : Type 0} → E → Linear → Result Linear E
-fits fault r = if is_in_range r then Ok r else Err fault
-
--- a form without variables
-abbrev pub is_number : Linear → Bool
-is_number r = list_all is_zero r.coefficients
 
 -- a variable alone
 abbrev pub variable : ℕ → Linear

@@ -1,12 +1,12 @@
 -- What normal forms and rows say of expressions and comparisons.
 use Rattle.std.specs.Prelude.{◌≡◌, ◌↔◌, ◌⊎◌, true, List, [], ◌∷◌, length, map, Ok}
 use Rattle.std.specs.List.{list_all}
-use Rattle.pc_rows.specs.Linear.{Linear, value, Meets, MeetsAll, negation}
+use Rattle.pc_rows.specs.Linear.{Linear, is_in_range, value, Meets, MeetsAll, negation}
 use Rattle.pc_rows.specs.declared.row.TheConstants.{VARIABLES}
 use Rattle.pc_syntax.specs.declared.tree.Expr.{Expr}
 use Rattle.pc_syntax.specs.declared.tree.Compare.{Compare}
 use Rattle.pc_syntax.specs.Values.{State, value_of, holds, all_hold}
-use Rattle.pc_syntax.specs.Forms.{form_of, form, is_fit, is_affine, is_in_range, is_unequal, has_rows, is_plain, rows_of, rows_all}
+use Rattle.pc_syntax.specs.Forms.{form_of, form, is_fit, is_affine, is_unequal, has_rows, is_plain, rows_of, rows_all}
 
 -- a row is the normal form of an expression: it has its value at every state, and is a row in range
 pub record IsFormOf (e : Expr) (r : Linear) : Type 0 where

@@ -1,8 +1,9 @@
 pub mod Context
 pub mod Forms
+pub mod Kept
 pub mod Laws
 pub mod Sane
+pub mod Trees
 pub mod Machine
-pub mod Named
 pub mod Values
 pub mod Spelling

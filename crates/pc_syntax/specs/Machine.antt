@@ -7,7 +7,7 @@ use Rattle.pc_grammar.specs.declared.tree.Choice.{Choice}
 use Rattle.pc_syntax.specs.declared.tree.Stmt.{Stmt, Stmt-F, out-Stmt}
 use Rattle.pc_syntax.specs.declared.tree.Stmt.TheOpen as stmt
 use Rattle.pc_syntax.specs.declared.program.Program.{Program}
-use Rattle.pc_syntax.specs.Named.{locals}
+use Rattle.pc_text.specs.Named.{locals}
 use Rattle.pc_syntax.specs.Values.{State, value_of, all_hold, chosen}
 
 -- the integer at an end of an interval

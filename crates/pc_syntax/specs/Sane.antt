@@ -2,6 +2,7 @@
 use Rattle.std.specs.Prelude.{ℕ, ◌+◌, nat_lt, nat_le, int_le, List, [], ◌∷◌, length, map, sum, Option, Some, None, Bool, true, false, ◌&&◌, not, ◌==◌, if◌then◌else◌}
 use Rattle.std.specs.List.{list_all}
 use Rattle.pc_rows.specs.declared.row.TheConstants.{VARIABLES}
+use Rattle.pc_rows.specs.Linear.{in_range}
 use Rattle.pc_grammar.specs.declared.tree.Op.TheVariants as op
 use Rattle.pc_grammar.specs.declared.tree.Op.{Op}
 use Rattle.pc_grammar.specs.declared.tree.Bound.{Bound}
@@ -16,8 +17,8 @@ use Rattle.pc_syntax.specs.declared.tree.Test.TheVariants as test
 use Rattle.pc_syntax.specs.declared.tree.Right.{Right}
 use Rattle.pc_syntax.specs.declared.tree.Stmt.{Stmt, Stmt-F, fold-Stmt}
 use Rattle.pc_syntax.specs.declared.tree.Stmt.TheOpen as stmt
-use Rattle.pc_syntax.specs.Named.{Named}
-use Rattle.pc_syntax.specs.Forms.{in_range, is_affine, is_unequal, rows_of, row_fits}
+use Rattle.pc_text.specs.Named.{Named}
+use Rattle.pc_syntax.specs.Forms.{is_affine, is_unequal, has_rows, rows_of, row_fits}
 
 abbrev pub below_step : ℕ → Expr-F Bool → Bool
 below_step n (expr.Num z) = true
@@ -34,6 +35,10 @@ names_below n e = fold-Expr Bool (below_step n) e
 -- an expression has its normal form, and its names are declared
 abbrev pub sane_expr : ℕ → Expr → Bool
 sane_expr n e = is_affine e && names_below n e
+
+-- the sides of a comparison have their normal forms, and each of its rows and its negation are in range
+abbrev pub has_sane_rows : Compare → Bool
+has_sane_rows c = has_rows c && list_all row_fits (rows_of c)
 
 -- each row of a comparison and its negation are in range
 abbrev pub sane_compare : ℕ → Compare → Bool

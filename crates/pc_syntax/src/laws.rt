@@ -2,6 +2,7 @@
 //! does nothing.
 
 ghost use Rattle.pc_syntax.specs.Laws.{FormsAreRight, ComparisonsAreRows, ConjunctionsAreRows, UnequalsAreRows};
+ghost use Rattle.pc_syntax.specs.Kept.{WalksAreSane};
 
 /// A normal form has the value of its expression at every state, and is in range.
 pub fn forms_are_right()
@@ -13,4 +14,9 @@ pub fn rows_are_right()
     ensures comparison { ComparisonsAreRows }
     ensures conjunction { ConjunctionsAreRows }
     ensures unequal { UnequalsAreRows }
+{}
+
+/// What the walk makes of a parse tree keeps the context rules.
+pub fn walks_are_sane()
+    ensures { WalksAreSane }
 {}

@@ -4,18 +4,20 @@
 mod fault;
 mod laws;
 mod limits;
-mod names;
 mod normal;
 mod program;
 mod reading;
+mod rows;
 mod tree;
+mod walk;
 
 pub use fault::SourceFault;
-pub use laws::{forms_are_right, rows_are_right};
+pub use laws::{forms_are_right, rows_are_right, walks_are_sane};
 pub use limits::{COMPARISONS, EDGES};
-pub use names::Names;
-pub use normal::AffineFault;
+pub use normal::{AffineFault, affine};
 pub use pc_grammar::{Bound, Choice, Op};
+pub use pc_text::Names;
 pub use program::Program;
 pub use reading::read;
+pub use rows::{form_of, rows_of};
 pub use tree::{Compare, Compares, Expr, Right, Stmt, Stmts, Test};

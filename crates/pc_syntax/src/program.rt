@@ -1,9 +1,8 @@
 ghost use Rattle.std.specs.Prelude.{◌≡◌, true};
 ghost use Rattle.pc_syntax.specs.Sane.{is_sane};
 
-use crate::names::Names;
 use crate::tree::Stmts;
-use pc_text::Place;
+use pc_text::{Names, Place};
 
 /// A program, which keeps the context rules. Its place is that of `entry`.
 #[derive(Drop)]

@@ -1,0 +1,11 @@
+pub mod Bytes
+pub mod Digits
+pub mod Places
+pub mod Lexemes
+pub mod ByteSets
+pub mod Longest
+pub mod Lex
+pub mod Answers
+pub mod Numerals
+pub mod Named
+pub mod Lines

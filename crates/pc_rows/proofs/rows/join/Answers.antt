@@ -5,7 +5,7 @@ use Rattle.pc_rows.proofs.rows.join.Goals as goal
 
 pub returns-in_err-add : goal.returns-in_err-add
 returns-in_err-add c =
-    let p = err_from_is_err_and c.from_residual-in_err-add.result c.from_residual-in_err-add.ensures.1 in
+    let p = err_from_is_err_and c.from_residual.result c.from_residual.ensures.1 in
     rw (p.1, p.2) (err_is c.args.a.now c.args.b.now c.loop-i.all c.loop-i.i _ _ _ c.at.ensures c.loop-i.invariant.rest c.in_err-add.ensures)
 
 pub loop-i-preserved : goal.loop-i-preserved

@@ -1,6 +1,6 @@
 use Rattle.std.proofs.Common.{◌≡◌, drop, length, ◌≤◌}
 use Rattle.pc_rows.specs.declared.rows.TheConstants.{ROWS}
-use Rattle.pc_rows.specs.Linear.{joined}
+use Rattle.pc_rows.specs.Joins.{joined}
 use Rattle.pc_rows.proofs.rows.join.Given as goal
 
 abbrev pub invariant-loop-i : goal.invariant-loop-i

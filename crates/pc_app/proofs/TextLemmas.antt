@@ -1,0 +1,7 @@
+-- Texts that grow by several pieces.
+use Rattle.std.proofs.Common.{◌≡◌, ◌∙◌, ap, ℕ, List, ◌++◌, append_assoc, Result, Ok, Err, OnOk}
+
+-- three pieces, one after the other
+pub three_pieces : {A E : Type 0} (r : Result A E) (old a b c first second third : List ℕ) → first ≡ old ++ a → second ≡ first ++ b → OnOk r (third ≡ second ++ c) → OnOk r (third ≡ old ++ (a ++ b ++ c))
+three_pieces (Ok u) old a b c first second third p q r = r ∙ ap (λ z. z ++ c) (q ∙ ap (λ z. z ++ b) p ∙ append_assoc old a b) ∙ append_assoc old (a ++ b) c
+three_pieces (Err e) old a b c first second third p q r = tt

@@ -1,0 +1,35 @@
+use Rattle.std.proofs.Common.{ℕ, List, map, string_bytes}
+use Rattle.pc_ports.specs.Outside.{Holding, Untold, Nothing, Held}
+use Rattle.pc_app.specs.Promises.{OfBytes, PrintedSuffices, PrintedIsExact}
+use Rattle.pc_app.proofs.EndLemmas as ends
+use Rattle.pc_app.proofs.service.serve.Goals as goal
+
+pub returns-clause-exact : goal.returns-clause-exact
+returns-clause-exact g c = ends.exact _ _ _ _ _ _ _ _ _ c.respond.ensures.ends
+
+pub returns-clause-sound : goal.returns-clause-sound
+returns-clause-sound g c = ends.sound _ _ _ _ _ _ _ _ _ c.respond.ensures.ends
+
+pub returns-clause-answered : goal.returns-clause-answered
+returns-clause-answered g c = ends.answered _ _ _ _ _ _ _ _ _ c.respond.ensures.ends
+
+pub returns-clause-usage : goal.returns-clause-usage
+returns-clause-usage g c = ends.usage _ _ _ _ _ _ _ _ _ c.respond.ensures.ends
+
+pub returns-clause-too_long : goal.returns-clause-too_long
+returns-clause-too_long g c = ends.too_long _ _ _ _ _ _ _ _ _ c.respond.ensures.ends
+
+pub returns-clause-refused : goal.returns-clause-refused
+returns-clause-refused g c = ends.refused _ _ _ _ _ _ _ _ _ c.respond.ensures.ends
+
+pub returns-clause-store : goal.returns-clause-store
+returns-clause-store g c = ends.store _ _ _ _ _ _ _ _ _ c.respond.ensures.ends
+
+pub returns-clause-sink : goal.returns-clause-sink
+returns-clause-sink g c = ends.sink _ _ _ _ _ _ _ _ _ c.respond.ensures.ends
+
+pub returns-clause-silent : goal.returns-clause-silent
+returns-clause-silent g c = ends.silent _ _ _ _ _ _ _ _ _ c.respond.ensures.ends
+
+pub returns-clause-complete : goal.returns-clause-complete
+returns-clause-complete g c = ends.complete_status _ _ _ _ _ _ _ _ _ c.respond.ensures.ends

@@ -1,0 +1,70 @@
+-- What the top call promises, by its words, by what the store tells and what the sink tells, and by their counts of faults.
+use Rattle.std.specs.Prelude.{◌≡◌, ◌≢◌, ◌<◌, ◌≤◌, ◌⊎◌, ℕ, true, false, Option, List, length}
+use Rattle.pc_ports.specs.Outside.{Holding, Untold, Nothing, Held, Rose, Appended, FrontAppended}
+use Rattle.pc_rows.specs.Linear.{Linear}
+use Rattle.pc_text.specs.Bytes.{Bytes}
+use Rattle.pc_syntax.specs.declared.program.Program.{Program}
+use Rattle.pc_syntax.specs.declared.fault.SourceFault.{SourceFault}
+use Rattle.pc_syntax.specs.Spelling.{Spells}
+use Rattle.pc_cert.specs.Conditions.{condition_text}
+use Rattle.pc_app.specs.declared.status.TheConstants.{DONE, USAGE, REFUSED, STORE_FAILED, SINK_FAILED, NO_MEMORY, TOO_LONG}
+use Rattle.pc_app.specs.declared.limits.TheConstants.{SOURCE_BYTES}
+use Rattle.pc_app.specs.Words.{IsInfer, IsPlain}
+use Rattle.pc_app.specs.Line.{is_line}
+use Rattle.pc_app.specs.Tame.{IsTame}
+use Rattle.pc_app.specs.Inferred.{IsCondition, Suffices, IsNeeded}
+use Rattle.pc_app.specs.Answers.{Answers, IsFaulty}
+use Rattle.pc_app.specs.Silences.{LacksFile}
+
+-- the bytes of a source spell a program; what was appended is the text of a condition over its parameters; every entry state that meets it is safe
+pub record PrintedSuffices (bytes : Bytes) (old new : Option Bytes) : Type 0 where
+  pub program : Program
+  pub spelled : Spells bytes program
+  pub condition : List (List Linear)
+  pub small : IsCondition program condition
+  pub printed : Appended old new (condition_text program.names.names condition)
+  pub safe : Suffices program condition
+
+-- the same, and where the program is a tame line of assertions and assignments, each other entry state has choices that violate an assertion
+pub record PrintedIsExact (bytes : Bytes) (old new : Option Bytes) : Type 0 where
+  pub suffices : PrintedSuffices bytes old new
+  pub needed : is_line suffices.program.body ≡ true → IsTame suffices.program.body → IsNeeded suffices.program suffices.condition
+
+-- a promise on the bytes that are held, where that is told
+abbrev pub OfBytes : (Bytes → Type 0) → Holding → Type 0
+OfBytes P Untold = Unit {0}
+OfBytes P Nothing = ⊥
+OfBytes P (Held bytes) = P bytes
+
+-- neither a fault outside nor want of memory ended the call
+abbrev pub IsAnswered : ℕ → Type 0
+IsAnswered status = (status ≢ STORE_FAILED) × (status ≢ SINK_FAILED) × (status ≢ NO_MEMORY)
+
+-- the whole answer to the words was written
+pub record HasAnswered (words : List Bytes) (held : Bytes → Holding) (status : ℕ) (old new : Option Bytes) : Type 0 where
+  pub text : Bytes
+  pub answers : Answers words held status text
+  pub written : Appended old new text
+
+-- the writing of an answer to the words was cut off, in the middle of its text
+pub record IsCutOff (words : List Bytes) (held : Bytes → Holding) (old new : Option Bytes) (before now : ℕ) : Type 0 where
+  pub status : ℕ
+  pub text : Bytes
+  pub answers : Answers words held status text
+  pub front : FrontAppended old new text
+  pub cause : Rose before now
+
+-- the status of a source that is held and short enough, where nothing outside fails: done, or refused for a fault that the reader
+-- tells (of which texts it does so is not said yet), or since the program is no line of assertions and assignments
+pub data IsComplete (bytes : Bytes) (status : ℕ) : Type 0 where
+  Done : status ≡ DONE → IsComplete bytes status
+  Starved : status ≡ NO_MEMORY → IsComplete bytes status
+  Faulty : status ≡ REFUSED → (f : SourceFault) → IsFaulty bytes f → IsComplete bytes status
+  NoLine : status ≡ REFUSED → (p : Program) → Spells bytes p → is_line p.body ≡ false → IsComplete bytes status
+
+-- how a call ends
+pub data Ends (words : List Bytes) (held : Bytes → Holding) (old new : Option Bytes) (store_before store_now sink_before sink_now status : ℕ) : Type 0 where
+  Answered : HasAnswered words held status old new → Ends words held old new store_before store_now sink_before sink_now status
+  Unread : status ≡ STORE_FAILED → LacksFile words held store_before store_now → new ≡ old → Ends words held old new store_before store_now sink_before sink_now status
+  CutOff : status ≡ SINK_FAILED → IsCutOff words held old new sink_before sink_now → Ends words held old new store_before store_now sink_before sink_now status
+  Starved : status ≡ NO_MEMORY → new ≡ old → Ends words held old new store_before store_now sink_before sink_now status

@@ -1,0 +1,44 @@
+-- The lines that tell what kept a command from its output.
+use Rattle.std.specs.Prelude.{◌≡◌, ◌++◌, ℤ, pos, codes}
+use Rattle.pc_text.specs.declared.place.Place.{Place}
+use Rattle.pc_text.specs.Numerals.{numeral}
+use Rattle.pc_text.specs.Bytes.{Bytes}
+use Rattle.pc_syntax.specs.declared.fault.SourceFault.{SourceFault}
+use Rattle.pc_syntax.specs.declared.fault.SourceFault.TheVariants as fault
+
+abbrev pub usage : Bytes
+usage = codes "usage: precond infer F\n"
+
+abbrev pub source_too_long : Bytes
+source_too_long = codes "too long: source\n"
+
+-- a place as line and column
+abbrev pub place_text : Place → Bytes
+place_text p = numeral (pos p.line) ++ codes ":" ++ numeral (pos p.column)
+
+-- a further number
+abbrev pub also : ℤ → Bytes
+also n = codes " " ++ numeral n
+
+-- what is told of a source: a code and a place, and a number or two where the fault has them
+abbrev pub fault_text : SourceFault → Bytes
+fault_text (fault.BadByte p b) = codes "bad-byte " ++ place_text p ++ also (pos b)
+fault_text (fault.LiteralTooBig p) = codes "literal-too-big " ++ place_text p
+fault_text (fault.NameTooLong p) = codes "name-too-long " ++ place_text p
+fault_text (fault.Syntax p) = codes "syntax " ++ place_text p
+fault_text (fault.TooDeep p) = codes "too-deep " ++ place_text p
+fault_text (fault.TooLong p) = codes "too-long " ++ place_text p
+fault_text (fault.DuplicateName p) = codes "duplicate-name " ++ place_text p
+fault_text (fault.TooManyNames p) = codes "too-many-names " ++ place_text p
+fault_text (fault.UnknownName p) = codes "unknown-name " ++ place_text p
+fault_text (fault.NotAffine p) = codes "not-affine " ++ place_text p
+fault_text (fault.FormPast p) = codes "form-past " ++ place_text p
+fault_text (fault.Unequal p) = codes "unequal " ++ place_text p
+fault_text (fault.EmptyInterval p lo hi) = codes "empty-interval " ++ place_text p ++ also lo ++ also hi
+fault_text (fault.TooManyEdges p) = codes "too-many-edges " ++ place_text p
+fault_text fault.NotBuilt = codes "not-built"
+fault_text fault.NoMemory = codes "no-memory"
+
+-- the line of a refused source
+abbrev pub refused : Bytes → Bytes
+refused why = codes "source: " ++ why ++ codes "\n"

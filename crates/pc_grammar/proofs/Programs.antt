@@ -1,0 +1,62 @@
+-- The laws of programs.
+use Rattle.std.proofs.Common.{ℕ, suc, List, [], ◌∷◌, ◌++◌, refl, append_assoc}
+use Rattle.pc_grammar.specs.declared.symbol.Symbol.{Symbol}
+use Rattle.pc_grammar.specs.declared.symbol.Terminal.{Terminal}
+use Rattle.pc_grammar.specs.declared.symbol.Terminal.TheVariants as terminal
+use Rattle.pc_grammar.specs.declared.tree.StmtTree.{StmtTree}
+use Rattle.pc_grammar.specs.Combinators.{Text, none, both, is_both}
+use Rattle.pc_grammar.specs.Terminals.{among, the, one, is_one}
+use Rattle.pc_grammar.specs.Statements.{begins_stmt, is_stmts, is_block}
+use Rattle.pc_grammar.specs.Expressions.{is_paren}
+use Rattle.pc_grammar.specs.Programs.{given, var_names, flat, program_of, names, params, var_line, locals, program, is_names, is_params, is_var_line, is_locals, is_program}
+use Rattle.pc_grammar.proofs.Laws.{Laws, Begins, Ends, map_laws, both_laws, maybe_laws, many_laws}
+use Rattle.pc_grammar.proofs.Sets.{parted, parts, fewer, none_ends, one_begins, map_begins, both_begins, many_parts}
+use Rattle.pc_grammar.proofs.Expressions.{only, then_laws, closed_laws, one_laws}
+use Rattle.pc_grammar.proofs.Statements.{item_laws, separated_laws, enclosed_laws, after_stmts, stmts_at_laws, stmt_begins}
+
+-- a name and then a comma may go on, and no other list of names may
+name_laws : Laws (among []) (is_one terminal.Name) (is_one terminal.Name) (one terminal.Name) (one terminal.Name)
+name_laws = closed_laws (among []) _ _ _ _ (one_laws terminal.Name refl)
+
+pub comma_name_laws : Laws (among []) (is_both (is_one terminal.Comma) (is_one terminal.Name)) (is_both (is_one terminal.Comma) (is_one terminal.Name)) (both (one terminal.Comma) (one terminal.Name)) (both (one terminal.Comma) (one terminal.Name))
+comma_name_laws = item_laws terminal.Comma refl [] _ _ _ _ name_laws refl
+
+names_laws : Laws (the terminal.Comma) is_names is_names names names
+names_laws = separated_laws terminal.Comma refl [] _ _ _ _ name_laws refl (only terminal.Comma) refl refl
+
+names_begins : (a : List Symbol) (w : Text) → is_names a w → Begins (the terminal.Name) w
+names_begins = map_begins _ _ _ (both_begins _ _ _ (one_begins (only terminal.Name)))
+
+abbrev after_params : List Terminal
+after_params = terminal.Name ∷ terminal.Comma ∷ []
+
+params_laws : Laws none is_params is_params params params
+params_laws = enclosed_laws after_params refl _ _ _ _ (map_laws given _ _ _ _ _
+    (maybe_laws (the terminal.Name) (the terminal.Comma) (among after_params) _ _ _ _ names_laws names_begins (fewer (only terminal.Name) after_params refl) (fewer (only terminal.Comma) after_params refl)))
+
+pub var_line_laws : Laws none is_var_line is_var_line var_line var_line
+var_line_laws = map_laws var_names _ _ _ _ _ (then_laws none _ _ _ _ _ _ _ _ (one_laws terminal.Var refl)
+    (both_laws (the terminal.Comma) none none _ _ _ _ _ _ _ _ names_laws (one_laws terminal.Semicolon refl)
+    (λ b v r m e. parts (only terminal.Semicolon) (only terminal.Comma) refl v r (one_begins (only terminal.Semicolon) b v m)) (λ r e. e)))
+
+pub var_line_begins : (a : List Symbol) (w : Text) → is_var_line a w → Begins (the terminal.Var) w
+var_line_begins = map_begins _ _ _ (both_begins _ _ _ (one_begins (only terminal.Var)))
+
+locals_laws : Laws (the terminal.Var) is_locals is_locals locals locals
+locals_laws = map_laws flat _ _ _ _ _ (many_laws (the terminal.Var) none (the terminal.Var) _ _ _ _ var_line_laws var_line_begins (λ v b. none_ends v) (λ r e. e) (λ r e. none_ends r))
+
+-- what follows the locals begins with no "var"
+body_apart : (n : ℕ) (x : List StmtTree × Symbol) (v r : Text) → is_both (is_stmts n) (is_one terminal.CloseBrace) x v → Ends (the terminal.Var) (v ++ r)
+body_apart n x v r (u, w, e, l, m) =
+    let brace : Ends (the terminal.Var) (w ++ r) = parts (only terminal.CloseBrace) (only terminal.Var) refl w r (one_begins (only terminal.CloseBrace) x.1 w m) in
+    rw (e, append_assoc u w r) (many_parts begins_stmt (the terminal.Var) (the terminal.Var) _ (stmt_begins (is_paren n) (is_block n)) (parted begins_stmt (only terminal.Var) refl) (λ q h. h) x.0 u (w ++ r) l brace)
+
+pub program_laws : (n : ℕ) → Laws none (is_program n) (is_program (suc n)) (program n) (program (suc n))
+program_laws n = map_laws program_of _ _ _ _ _
+    (then_laws none _ _ _ _ _ _ _ _ (one_laws terminal.Entry refl)
+    (then_laws none _ _ _ _ _ _ _ _ params_laws
+    (then_laws none _ _ _ _ _ _ _ _ (one_laws terminal.OpenBrace refl)
+    (both_laws (the terminal.Var) none none _ _ _ _ _ _ _ _ locals_laws
+    (both_laws (among after_stmts) none none _ _ _ _ _ _ _ _ (stmts_at_laws n) (one_laws terminal.CloseBrace refl)
+    (λ b v r m e. parts (only terminal.CloseBrace) after_stmts refl v r (one_begins (only terminal.CloseBrace) b v m)) (λ r e. e))
+    (λ b v r m e. body_apart n b v r m) (λ r e. e)))))

@@ -1,0 +1,8 @@
+use Rattle.pc_grammar.proofs.Unique.{gives_means, gives_only}
+use Rattle.pc_grammar.proofs.parsing.parse.Goals as goal
+
+pub returns-clause-meant : goal.returns-clause-meant
+returns-clause-meant c = gives_means c.read.result c.args.symbols.now c.args.end c.read.ensures
+
+pub returns-clause-only : goal.returns-clause-only
+returns-clause-only c = gives_only c.read.result c.args.symbols.now c.args.end c.read.ensures

@@ -1,0 +1,17 @@
+use pc_text::Place;
+
+/// Why symbols have no parse tree. Of these the one at the least place is reported, and at one
+/// symbol `Syntax` comes first.
+#[derive(Clone, Copy, Debug, PartialEq, Eq)]
+pub enum ParseFault {
+    /// The first symbol such that the symbols up to and with it begin no program; or the end of
+    /// the text, where all symbols begin a program but are none.
+    Syntax(Place),
+    /// A `{` where [`BRACES`](crate::BRACES) are open.
+    TooDeep(Place),
+    /// A sign of an expression that has [`SIGNS`](crate::SIGNS) already, or the `&&` before a
+    /// comparison of a conjunction that has [`COMPARISONS`](crate::COMPARISONS).
+    TooLong(Place),
+    /// There is no memory for the tree.
+    NoMemory,
+}

@@ -1,0 +1,181 @@
+//! The limits on nesting and on lengths, as counts over the symbols.
+
+ghost use Rattle.std.specs.Prelude.{◌≡◌, ◌+◌, ◌<◌, ◌≤◌, length, IfSome};
+ghost use Rattle.pc_grammar.specs.Combinators.{starts};
+ghost use Rattle.pc_grammar.specs.Terminals.{the, has};
+ghost use Rattle.pc_grammar.specs.Limits as spec;
+
+use crate::fault::ParseFault;
+use crate::symbol::{Symbol, Terminal};
+
+/// The most braces that may be open at once.
+pub const BRACES: usize = 64;
+
+/// The most signs of one expression, which is a side of a comparison or the part of a right side
+/// before its choice: its `+`, `-`, `*` and `(`. A `+` before a `[` is none of them.
+pub const SIGNS: usize = 64;
+
+/// The most comparisons of a conjunction.
+pub const COMPARISONS: usize = 8;
+
+/// What was counted in the symbols before one.
+#[derive(Clone, Copy)]
+pub struct Counts {
+    /// The open braces.
+    pub braces: usize,
+    /// The signs of the present expression.
+    pub signs: usize,
+    /// The `&&` of the present conjunction.
+    pub ands: usize,
+    /// Whether the symbol directly before is a keyword: a `(` here encloses no expression.
+    pub behind_keyword: bool,
+}
+
+/// A symbol that is past a limit: its index, and the fault with its place.
+#[derive(Clone, Copy)]
+pub struct Past {
+    pub at: usize,
+    pub fault: ParseFault,
+}
+
+fn is_keyword(terminal: Terminal) -> bool
+    ensures { result ≡ has spec.keywords terminal }
+{
+    match terminal {
+        Terminal::Entry
+        | Terminal::Var
+        | Terminal::If
+        | Terminal::Else
+        | Terminal::While
+        | Terminal::Try
+        | Terminal::Assert
+        | Terminal::Assume => true,
+        _ => false,
+    }
+}
+
+/// Whether the terminal may stand in an expression.
+fn is_of_expression(terminal: Terminal) -> bool
+    ensures { result ≡ has spec.of_expressions terminal }
+{
+    match terminal {
+        Terminal::Name
+        | Terminal::Number
+        | Terminal::OpenParen
+        | Terminal::CloseParen
+        | Terminal::Plus
+        | Terminal::Minus
+        | Terminal::Star => true,
+        _ => false,
+    }
+}
+
+fn begins_choice(rest: &[Symbol]) -> bool
+    ensures { result ≡ starts (the Terminal.OpenBracket) rest.now }
+{
+    match rest.first() {
+        Some(next) => match next.terminal {
+            Terminal::OpenBracket => true,
+            _ => false,
+        },
+        None => false,
+    }
+}
+
+/// Whether a terminal before these symbols is a counted sign of an expression.
+fn is_sign(terminal: Terminal, behind_keyword: bool, rest: &[Symbol]) -> bool
+    ensures { result ≡ spec.is_sign terminal behind_keyword rest.now }
+{
+    match terminal {
+        Terminal::Plus => !begins_choice(rest),
+        Terminal::Minus | Terminal::Star => true,
+        Terminal::OpenParen => !behind_keyword,
+        _ => false,
+    }
+}
+
+/// One more, or nothing where the limit is reached.
+fn one_more(count: usize, limit: usize) -> Option<usize>
+    ensures { result ≡ spec.one_more count limit }
+{
+    if count < limit { Some(count + 1) } else { None }
+}
+
+fn braces_after(braces: usize, terminal: Terminal) -> Option<usize>
+    ensures { result ≡ spec.braces_after braces terminal }
+{
+    match terminal {
+        Terminal::OpenBrace => one_more(braces, BRACES),
+        Terminal::CloseBrace => Some(braces.saturating_sub(1)),
+        _ => Some(braces),
+    }
+}
+
+fn signs_after(signs: usize, is_sign: bool, terminal: Terminal) -> Option<usize>
+    ensures { result ≡ spec.signs_after signs is_sign terminal }
+{
+    if is_sign {
+        one_more(signs, SIGNS)
+    } else if is_of_expression(terminal) {
+        Some(signs)
+    } else {
+        Some(0)
+    }
+}
+
+fn ands_after(ands: usize, terminal: Terminal) -> Option<usize>
+    ensures { result ≡ spec.ands_after ands terminal }
+{
+    match terminal {
+        Terminal::And => one_more(ands, COMPARISONS - 1),
+        _ if is_keyword(terminal) => Some(0),
+        _ => Some(ands),
+    }
+}
+
+/// The counts after one more symbol, which stands before these others; or its fault, where it is
+/// past a limit.
+fn counted(counts: Counts, symbol: Symbol, rest: &[Symbol]) -> Result<Counts, ParseFault>
+    ensures { result ≡ spec.counted counts symbol rest.now }
+{
+    let Some(braces) = braces_after(counts.braces, symbol.terminal) else {
+        return Err(ParseFault::TooDeep(symbol.place));
+    };
+    let is_sign = is_sign(symbol.terminal, counts.behind_keyword, rest);
+    let Some(signs) = signs_after(counts.signs, is_sign, symbol.terminal) else {
+        return Err(ParseFault::TooLong(symbol.place));
+    };
+    let Some(ands) = ands_after(counts.ands, symbol.terminal) else {
+        return Err(ParseFault::TooLong(symbol.place));
+    };
+    Ok(Counts {
+        braces,
+        signs,
+        ands,
+        behind_keyword: is_keyword(symbol.terminal),
+    })
+}
+
+/// The first symbol that is past a limit.
+pub fn first_past(symbols: &[Symbol]) -> Option<Past>
+    ensures first { result ≡ spec.first_past spec.start symbols.now }
+    ensures within { IfSome result (λ past. past.at < length symbols.now) }
+{
+    let mut counts = Counts {
+        braces: 0,
+        signs: 0,
+        ands: 0,
+        behind_keyword: false,
+    };
+    let mut at = 0;
+    let mut ahead = symbols;
+    'symbols: while let [symbol, rest @ ..] = ahead {
+        match counted(counts, *symbol, rest) {
+            Ok(next) => counts = next,
+            Err(fault) => return Some(Past { at, fault }),
+        }
+        at += 1;
+        ahead = rest;
+    }
+    None
+}

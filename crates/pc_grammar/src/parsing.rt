@@ -1,0 +1,66 @@
+//! The parse tree of symbols.
+
+ghost use Rattle.std.specs.Prelude.{◌≡◌, Result};
+ghost use Rattle.pc_grammar.specs.declared.fault.ParseFault.{ParseFault};
+ghost use Rattle.pc_grammar.specs.declared.tree.ProgramTree.{ProgramTree};
+ghost use Rattle.pc_grammar.specs.Parsing as spec;
+
+use crate::cursor::{Cursor, Stop};
+use crate::fault::ParseFault;
+use crate::limits::{Past, first_past};
+use crate::program::whole_program;
+use crate::symbol::Symbol;
+use crate::tree::ProgramTree;
+use pc_text::Place;
+use std::alloc::Global;
+
+fn fault_at(past: Option<Past>, end: Place, rest: &[Symbol]) -> ParseFault
+    ensures { result ≡ spec.fault_at past end rest.now }
+{
+    match rest.first() {
+        Some(symbol) => ParseFault::Syntax(symbol.place),
+        None => match past {
+            Some(past) => past.fault,
+            None => ParseFault::Syntax(end),
+        },
+    }
+}
+
+/// The answer for the symbols up to and with the first that is past a limit.
+fn read_front(
+    alloc: Global,
+    front: &[Symbol],
+    past: Option<Past>,
+    end: Place,
+) -> Result<ProgramTree, ParseFault>
+    ensures { spec.Gives result (spec.answer past end (spec.read_whole front.now)) }
+{
+    let mut cursor = Cursor { rest: front };
+    match whole_program(alloc, &mut cursor, front.len() + 1) {
+        Ok(tree) => match past {
+            Some(past) => Err(past.fault),
+            None => Ok(tree),
+        },
+        Err(Stop::NoMemory) => Err(ParseFault::NoMemory),
+        Err(Stop::Syntax) => Err(fault_at(past, end, cursor.rest)),
+    }
+}
+
+fn read(alloc: Global, symbols: &[Symbol], end: Place) -> Result<ProgramTree, ParseFault>
+    ensures { spec.Gives result (spec.parsed symbols.now end) }
+{
+    match first_past(symbols) {
+        Some(past) => read_front(alloc, &symbols[..past.at + 1], Some(past), end),
+        None => read_front(alloc, symbols, None, end),
+    }
+}
+
+/// The parse tree of the symbols of a text that ends at `end`. Only the symbols up to and with the
+/// first that is past a limit are read, so nesting is bounded whatever the text.
+pub fn parse(alloc: Global, symbols: &[Symbol], end: Place) -> Result<ProgramTree, ParseFault>
+    ensures meant { spec.MeansUnless result symbols.now end }
+    ensures only { (answer : Result ProgramTree ParseFault) → spec.Means symbols.now end answer → spec.Gives result answer }
+    ensures computed { spec.Gives result (spec.parsed symbols.now end) }
+{
+    read(alloc, symbols, end)
+}

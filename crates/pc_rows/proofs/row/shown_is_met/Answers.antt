@@ -1,5 +1,0 @@
-use Rattle.pc_rows.proofs.Farkas as farkas
-use Rattle.pc_rows.proofs.row.shown_is_met.Goals as goal
-
-pub returns : goal.returns
-returns c = farkas.shown_is_met

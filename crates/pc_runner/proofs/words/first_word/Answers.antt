@@ -1,0 +1,11 @@
+use Rattle.std.proofs.Common.{◌≡◌, ◌∷◌, ◌∙◌, ap, sym}
+use Rattle.std.proofs.lemmas.List.{take_rest}
+use Rattle.pc_runner.specs.Words.{words}
+use Rattle.pc_runner.proofs.Parts.{words_first, words_alone}
+use Rattle.pc_runner.proofs.words.first_word.Goals as goal
+
+pub returns-in-Some-clause-words : goal.returns-in-Some-clause-words
+returns-in-Some-clause-words c = rw take_rest (words_first c.args.text.now c.in-Some.at (sym c.in-Some.ensures))
+
+pub returns-in-None-clause-words : goal.returns-in-None-clause-words
+returns-in-None-clause-words c = words_alone c.args.text.now (sym c.in-None.ensures)

@@ -1,0 +1,9 @@
+pub mod Range
+pub mod Computed
+pub mod Checked
+pub mod Stack
+pub mod Verdicts
+pub mod Runs
+pub mod Words
+pub mod Scripts
+pub mod Answers
