@@ -3,10 +3,12 @@ use Rattle.std.proofs.Common.{◌≡◌, ℕ, ◌+◌, ◌<◌, ◌≤◌, suc, 
 use Rattle.std.specs.Prelude.{◌⊎◌, ◌&&◌, replicate, nat_le}
 use Rattle.std.specs.List.{AllByRecursion as Each}
 use Rattle.pc_text.specs.declared.place.Place.{Place}
+use Rattle.pc_rows.specs.Linear.{zero_from}
+use Rattle.pc_rows.proofs.First.{zero_from_entry}
 use Rattle.pc_rows.specs.declared.row.TheConstants.{VARIABLES}
 use Rattle.pc_syntax.specs.declared.limits.TheConstants.{EDGES}
 use Rattle.pc_syntax.specs.Machine.{Outcome, Going, Violated, Blocked, Ended, step, next, run, run_of, started, Safe}
-use Rattle.pc_syntax.specs.Named.{locals}
+use Rattle.pc_text.specs.Named.{locals}
 use Rattle.pc_syntax.specs.Sane.{sane_stmts, edges_of}
 use Rattle.pc_syntax.specs.Values.{State}
 use Rattle.pc_syntax.specs.declared.program.Program.{Program}
@@ -17,7 +19,7 @@ use Rattle.pc_graph.specs.Corresponds.{IsNoStep, IsStep, RunsHaveWalks, WalksHav
 use Rattle.pc_graph.specs.Lists.{In}
 use Rattle.pc_graph.specs.Lowering.{graph, made, no_steps}
 use Rattle.pc_graph.specs.Rest.{rest, rests_of}
-use Rattle.pc_graph.specs.Walk.{zero_from, Pass, Keeps, Walks, Walk, GraphSafe}
+use Rattle.pc_graph.specs.Walk.{Pass, Keeps, Walks, Walk, GraphSafe}
 use Rattle.pc_graph.proofs.Cases.{by_cases}
 use Rattle.pc_graph.proofs.Lists.{each_at, each_in, each_more, each_all}
 use Rattle.pc_graph.proofs.Rules.{TiesOne, list_ties, set_ties, if_ties, while_ties, check_ties, assume_ties}
@@ -132,16 +134,6 @@ holds_from ρ (x ∷ xs) m h =
       holds_from ρ xs (m + 1) (λ i. let e : m + suc i ≡ (m + 1) + i = omega arith in subst (λ q. ρ q ≡ get_or xs i []) e (h (suc i))),
     )
 
-zeros_stay : (n m : ℕ) → zero_from n (replicate m (pos 0)) ≡ replicate m (pos 0)
-zeros_stay n zero = refl
-zeros_stay zero (suc m) = ap (λ (z : State). pos 0 ∷ z) (zeros_stay zero m)
-zeros_stay (suc n) (suc m) = ap (λ (z : State). pos 0 ∷ z) (zeros_stay n m)
-
-started_stays : (s : State) (n m : ℕ) → length s ≡ n → zero_from n (s ++ replicate m (pos 0)) ≡ s ++ replicate m (pos 0)
-started_stays [] n m e = zeros_stay n m
-started_stays (a ∷ s) zero m e = absurd (omega arith)
-started_stays (a ∷ s) (suc n) m e = ap (λ (z : State). a ∷ z) (started_stays s n m (omega arith))
-
 module _ (p : Program) (s : State) (long : length s ≡ p.names.params) where
   abbrev g : List Arc
   g = (graph p).edges
@@ -180,7 +172,7 @@ module _ (p : Program) (s : State) (long : length s ≡ p.names.params) where
   s0 = started p s
 
   stays : zero_from p.names.params s0 ≡ s0
-  stays = started_stays s p.names.params (locals p.names) long
+  stays = zero_from_entry p.names.params (locals p.names) s long
 
   sound : (e : Arc) → In e g → IsSound g ρ s0 e
   sound e (inl same) = subst (IsSound g ρ s0) (sym same) (omega arith, inl (refl, refl, (λ t h. h ∙ stays)))

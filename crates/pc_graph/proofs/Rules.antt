@@ -10,7 +10,8 @@ use Rattle.pc_grammar.specs.declared.tree.Choice.{Choice}
 use Rattle.pc_rows.specs.Linear.{value, MeetsAll}
 use Rattle.pc_syntax.specs.Forms.{form, rows_all}
 use Rattle.pc_syntax.specs.Machine.{Going, Violated, Blocked, step, end_of, clamped, drawn}
-use Rattle.pc_syntax.specs.Forms.{is_affine, in_range}
+use Rattle.pc_rows.specs.Linear.{in_range}
+use Rattle.pc_syntax.specs.Forms.{is_affine}
 use Rattle.pc_syntax.specs.Sane.{sane_stmt, sane_step, sane_stmts, sane_test, sane_each, sane_all, sane_right, sane_expr, sane_choice, in_order, names_below}
 use Rattle.pc_syntax.specs.Values.{State, value_of, all_hold, chosen}
 use Rattle.pc_syntax.specs.declared.tree.Compare.{Compare}

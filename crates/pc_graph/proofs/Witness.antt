@@ -2,17 +2,19 @@
 use Rattle.std.proofs.Common.{◌≡◌, ℕ, ◌+◌, ◌<◌, ◌≤◌, suc, zero, ℤ, pos, ◌≤ℤ◌, ◌+ℤ◌, ◌*ℤ◌, List, [], ◌∷◌, length, Bool, true, false, cond, refl, sym, ap, subst, ◌∙◌, arith, inl, inr}
 use Rattle.std.specs.Prelude.{◌⊎◌, slice_set, int_lt}
 use Rattle.std.proofs.lemmas.Int.{ints}
-use Rattle.pc_rows.specs.Linear.{Linear, value, Meets, MeetsAll, substituted, coefficient, lesser, is_zero, add_lists, scale_list}
-use Rattle.pc_rows.proofs.Law.{substitution_is_exact}
+use Rattle.pc_rows.specs.Linear.{Linear, value, Meets, MeetsAll, coefficient, is_zero, add_lists, scale_list, zero_from}
+use Rattle.pc_rows.specs.Substitution.{substituted, lesser}
+use Rattle.pc_rows.proofs.Carrying.{substitution_is_exact}
+use Rattle.pc_rows.proofs.First.{value_of_first}
 use Rattle.pc_syntax.specs.Machine.{end_of}
 use Rattle.pc_syntax.specs.Values.{State}
 use Rattle.pc_graph.specs.Arc.{What, Enter, Test, Set, Check, Arc, IsFit}
-use Rattle.pc_graph.specs.Carry.{back, back_all, owes, IsWide, HasVariable}
+use Rattle.pc_graph.specs.Carry.{back, back_all, owes, HasVariable}
 use Rattle.pc_graph.specs.Exact.{Annotation, NoRows, StraightEdge, StraightNeed, BrokenHasWalk, OwedIsNeeded}
 use Rattle.pc_graph.specs.Flow.{Flow}
 use Rattle.pc_graph.specs.Lists.{In}
-use Rattle.pc_graph.specs.Walk.{zero_from, Pass, Keeps, Walk, entered, Breaks}
-use Rattle.pc_graph.proofs.Carrying.{dot-zero_from, same_length}
+use Rattle.pc_graph.specs.Walk.{Pass, Keeps, Walk, entered, Breaks}
+use Rattle.pc_graph.proofs.Carrying.{same_length}
 use Rattle.pc_graph.proofs.Lists.{each_at, in_either}
 use Rattle.pc_graph.proofs.Tests.{all_or_not}
 
@@ -42,15 +44,15 @@ lesser_at a lo hi le = by (int_lt (a *ℤ hi) (a *ℤ lo))
     by false = (lo, omega (arith, ints), le, sym (lesser_same (a *ℤ lo)))
 
 -- where a row carried back is broken, the successor at that end breaks the row
-set_breaks : (r f : Linear) (x : ℕ) (lo hi : ℤ) (s : State) → x < length s → x < length r.coefficients → lo ≤ℤ hi →
+set_breaks : (r f : Linear) (x : ℕ) (lo hi : ℤ) (s : State) → x < length s → lo ≤ℤ hi →
     (Meets s (substituted r x f lo hi) → ⊥) → (c : ℤ) × (lo ≤ℤ c) × (c ≤ℤ hi) × (Meets (slice_set s x (value f s +ℤ c)) r → ⊥)
-set_breaks r f x lo hi s h k le bad =
+set_breaks r f x lo hi s h le bad =
     let c = lesser_at (coefficient r x) lo hi le in
     let same = ap (λ (z : ℤ). cond (is_zero (coefficient r x)) r (record {
       constant = r.constant +ℤ coefficient r x *ℤ f.constant +ℤ z;
       coefficients = add_lists (scale_list (coefficient r x) f.coefficients) (slice_set r.coefficients x (pos 0));
     })) c.3 in
-    let law = substitution_is_exact r f x c.0 c.0 s h k (omega (arith, ints)) in (
+    let law = substitution_is_exact r f x c.0 c.0 s h (omega (arith, ints)) in (
       c.0,
       c.1,
       c.2,
@@ -98,16 +100,14 @@ module _ (g : Flow) (a : Annotation) (s : State) (need : StraightNeed g a) where
           ((u : State) → Pass v t u → (z : Linear) → In z (a e.to) → (Meets u z → ⊥) → Breaks g s) → In r (owes v (a e.to)) → Breaks g s
       by (Enter n) same free fit has go k =
           let h = in_back (Enter n) r (a e.to) k in
-          let q = dot-zero_from n h.0.coefficients t in
-          go (zero_from n t) refl h.0 h.1 (λ z. bad (subst (Meets t) (sym h.2) (subst (λ z. pos 0 ≤ℤ (h.0.constant +ℤ z)) (sym q) z)))
+          let q = value_of_first n h.0 t in
+          go (zero_from n t) refl h.0 h.1 (λ z. bad (subst (Meets t) (sym h.2) (subst (λ z. pos 0 ≤ℤ z) (sym q) z)))
       by (Test own) same free fit has go k =
           let h = in_back (Test own) r (a e.to) k in
           go t (subst (MeetsAll t) (sym free) tt, refl) h.0 h.1 (λ z. bad (subst (Meets t) (sym h.2) z))
       by (Set x f lo hi) same free fit has go k =
           let h = in_back (Set x f lo hi) r (a e.to) k in
-          let wide = each_at IsWide (a e.to) h.0 (need.wide e.to) h.1 in
-          let below = fit.0 in
-          let c = set_breaks h.0 f x (end_of lo) (end_of hi) t has (omega arith) fit.1.ordered (λ z. bad (subst (Meets t) (sym h.2) z)) in
+          let c = set_breaks h.0 f x (end_of lo) (end_of hi) t has fit.1.ordered (λ z. bad (subst (Meets t) (sym h.2) z)) in
           go (slice_set t x (value f t +ℤ c.0)) (c.0, c.1, c.2, refl) h.0 h.1 c.3
       by (Check own) same free fit has go k = by_check own same go (all_or_not own t) (in_either r own (a e.to) k)
 

@@ -1,23 +1,25 @@
 -- Rows that are carried back over an edge, and what an edge owes.
-use Rattle.std.specs.Prelude.{◌≡◌, ℕ, ◌<◌, List, [], ◌∷◌, ◌++◌, length}
-use Rattle.std.specs.List.{AllByRecursion as Each}
-use Rattle.pc_rows.specs.declared.row.TheConstants.{VARIABLES}
-use Rattle.pc_rows.specs.Linear.{Linear, Meets, MeetsAll, substituted}
+use Rattle.std.specs.Prelude.{ℕ, ◌<◌, List, [], ◌∷◌, ◌++◌, length}
+use Rattle.pc_rows.specs.Linear.{Linear, Meets, MeetsAll, first_of}
+use Rattle.pc_rows.specs.Substitution.{substituted, SubstituteFits}
 use Rattle.pc_syntax.specs.Machine.{end_of}
 use Rattle.pc_syntax.specs.Values.{State}
 use Rattle.pc_graph.specs.Arc.{What, Enter, Test, Set, Check, IsFit}
-use Rattle.pc_graph.specs.Walk.{Pass, Keeps, zero_from}
-
--- a row with the coefficient 0 at the variables from a number on
-abbrev pub first_only : ℕ → Linear → Linear
-first_only n r = record { constant = r.constant; coefficients = zero_from n r.coefficients }
+use Rattle.pc_graph.specs.Walk.{Pass, Keeps}
 
 -- a row at the target of an edge as a row at its source
 abbrev pub back : What → Linear → Linear
-back (Enter params) r = first_only params r
+back (Enter params) r = first_of params r
 back (Test rows) r = r
 back (Set x form lo hi) r = substituted r x form (end_of lo) (end_of hi)
 back (Check rows) r = r
+
+-- each number that is computed for it is in range; only an assignment computes any
+abbrev pub BackFits : What → Linear → Type 0
+BackFits (Set x form lo hi) r = SubstituteFits r x form (end_of lo) (end_of hi)
+BackFits (Enter params) r = Unit {0}
+BackFits (Test rows) r = Unit {0}
+BackFits (Check rows) r = Unit {0}
 
 abbrev pub back_all : What → List Linear → List Linear
 back_all w [] = []
@@ -44,10 +46,6 @@ Admits (Check rows) s = MeetsAll s rows
 Admits (Enter params) s = Unit {0}
 Admits (Set x form lo hi) s = Unit {0}
 
--- a row has a coefficient for each variable
-abbrev pub IsWide : Linear → Type 0
-IsWide r = length r.coefficients ≡ VARIABLES
-
 -- a state has a value of the variable that the edge assigns
 abbrev pub HasVariable : What → State → Type 0
 HasVariable (Set x form lo hi) s = x < length s
@@ -65,7 +63,7 @@ pub record CarriesBack (w : What) (s : State) (r : Linear) : Type 0 where
   pub needed : Admits w s → AllSuccessorsMeet w s r → Meets s (back w r)
 
 abbrev pub CarryingIsExact : Type 0
-CarryingIsExact = (w : What) (s : State) (r : Linear) → IsFit w → HasVariable w s → IsWide r → CarriesBack w s r
+CarryingIsExact = (w : What) (s : State) (r : Linear) → IsFit w → HasVariable w s → CarriesBack w s r
 
 -- who meets what an edge owes keeps its assertion, and all his successors meet the rows at its target
 pub record Pays (w : What) (s : State) (rows : List Linear) : Type 0 where
@@ -74,4 +72,4 @@ pub record Pays (w : What) (s : State) (rows : List Linear) : Type 0 where
 
 abbrev pub OwedIsEnough : Type 0
 OwedIsEnough =
-    (w : What) (s : State) (rows : List Linear) → IsFit w → HasVariable w s → Each IsWide rows → MeetsAll s (owes w rows) → Pays w s rows
+    (w : What) (s : State) (rows : List Linear) → IsFit w → HasVariable w s → MeetsAll s (owes w rows) → Pays w s rows

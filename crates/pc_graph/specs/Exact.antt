@@ -4,7 +4,7 @@ use Rattle.std.specs.List.{AllByRecursion as Each}
 use Rattle.pc_rows.specs.Linear.{Linear, MeetsAll}
 use Rattle.pc_syntax.specs.Values.{State}
 use Rattle.pc_graph.specs.Arc.{What, Enter, Test, Set, Check, Arc, IsFit}
-use Rattle.pc_graph.specs.Carry.{IsWide, HasVariable, Pays, owes}
+use Rattle.pc_graph.specs.Carry.{HasVariable, Pays, owes}
 use Rattle.pc_graph.specs.Flow.{Flow}
 use Rattle.pc_graph.specs.Lists.{In}
 use Rattle.pc_graph.specs.Walk.{entered, GraphSafe, Breaks}
@@ -43,7 +43,6 @@ IsOwed g a = (p : ℕ) (r : Linear) → In r (a p) → (e : Arc) × In e g × (e
 -- what is owed on a graph without tests and loops
 pub record StraightNeed (g : Flow) (a : Annotation) : Type 0 where
   pub edges : Each (StraightEdge (length g.points) g.variables) g.edges
-  pub wide : (p : ℕ) → Each IsWide (a p)
   pub owed : IsOwed g.edges a
 
 -- an entry state that breaks a row of the entry has a walk to an assertion that does not hold

@@ -1,17 +1,11 @@
 -- Walks through a graph, and its safe entry states.
-use Rattle.std.specs.Prelude.{◌≡◌, ℕ, zero, suc, ◌-◌, ℤ, pos, ◌+ℤ◌, ◌≤ℤ◌, List, [], ◌∷◌, ◌++◌, length, slice_set, replicate}
-use Rattle.pc_rows.specs.Linear.{value, MeetsAll}
+use Rattle.std.specs.Prelude.{◌≡◌, ℕ, ◌-◌, ℤ, pos, ◌+ℤ◌, ◌≤ℤ◌, List, [], ◌∷◌, ◌++◌, length, slice_set, replicate}
+use Rattle.pc_rows.specs.Linear.{value, MeetsAll, zero_from}
 use Rattle.pc_syntax.specs.Machine.{end_of}
 use Rattle.pc_syntax.specs.Values.{State}
 use Rattle.pc_graph.specs.Arc.{What, Enter, Test, Set, Check, Arc}
 use Rattle.pc_graph.specs.Flow.{Flow}
 use Rattle.pc_graph.specs.Lists.{In}
-
--- numbers with 0 from a place on
-abbrev pub zero_from : ℕ → List ℤ → List ℤ
-zero_from n [] = []
-zero_from zero (a ∷ as') = pos 0 ∷ zero_from zero as'
-zero_from (suc n) (a ∷ as') = a ∷ zero_from n as'
 
 -- an edge leads from the state s to the state t
 abbrev pub Pass : What → State → State → Type 0
