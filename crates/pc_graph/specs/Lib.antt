@@ -1,6 +1,7 @@
 pub mod Lists
 pub mod Arc
 pub mod Flow
+pub mod Shape
 pub mod Ways
 pub mod Lowering
 pub mod Rest

@@ -1,12 +1,16 @@
 //! Points and edges: the graph of a program, and rows that are carried back over its edges.
 #![tactic(auto)]
 
+mod backward;
 mod edge;
+mod graph;
 mod laws;
 mod point;
 mod what;
 
+pub use backward::{back, entry_row};
 pub use edge::Edge;
+pub use graph::Graph;
 pub use laws::{
     broken_has_walk, carrying_is_exact, owed_is_enough, owed_is_needed, paid_is_safe,
     steps_correspond,
