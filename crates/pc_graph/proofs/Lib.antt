@@ -9,3 +9,6 @@ pub mod Bridge
 pub mod Carrying
 pub mod Closed
 pub mod Witness
+pub mod Ready
+pub mod Growing
+pub mod Drawing

@@ -67,7 +67,7 @@ all_or_not rs s = by (all_or_apart rs s)
 
 -- ---- conjunctions that keep the context rules
 
-rows_found : (n : ℕ) (c : Compare) → sane_compare n c ≡ true → has_rows c ≡ true
+pub rows_found : (n : ℕ) (c : Compare) → sane_compare n c ≡ true → has_rows c ≡ true
 rows_found n c h =
     let l = and_is (sane_expr n c.left) (sane_expr n c.right && list_all row_fits (rows_of c)) h in
     let r = and_is (sane_expr n c.right) (list_all row_fits (rows_of c)) l.1 in

@@ -4,6 +4,7 @@ pub mod Flow
 pub mod Shape
 pub mod Ways
 pub mod Lowering
+pub mod Drawn
 pub mod Rest
 pub mod Walk
 pub mod Corresponds

@@ -13,15 +13,11 @@ use Rattle.pc_syntax.specs.declared.tree.Right.{Right}
 use Rattle.pc_syntax.specs.declared.tree.Test.{Test as Condition}
 use Rattle.pc_syntax.specs.declared.tree.Stmt.{Stmt, Stmt-F, fold-Stmt}
 use Rattle.pc_syntax.specs.declared.tree.Stmt.TheOpen as stmt
+use Rattle.pc_graph.specs.declared.draft.Loop.{Loop}
 use Rattle.pc_graph.specs.declared.point.PointInfo.{PointInfo}
 use Rattle.pc_graph.specs.Arc.{What, Enter, Test, Set, Check, Arc, arc}
 use Rattle.pc_graph.specs.Flow.{Flow}
 use Rattle.pc_graph.specs.Ways.{ways}
-
--- a loop: its head, and the rows that it tries
-pub record Loop : Type 0 where
-  pub head : ℕ
-  pub tried : List Linear
 
 -- what a rule makes, each list in order
 pub record Piece : Type 0 where

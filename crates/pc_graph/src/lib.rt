@@ -2,15 +2,19 @@
 #![tactic(auto)]
 
 mod backward;
+mod draft;
 mod edge;
 mod graph;
 mod laws;
+mod lowering;
 mod point;
+mod row;
 mod what;
 
 pub use backward::{back, entry_row};
 pub use edge::Edge;
 pub use graph::Graph;
+pub use lowering::lower;
 pub use laws::{
     broken_has_walk, carrying_is_exact, owed_is_enough, owed_is_needed, paid_is_safe,
     steps_correspond,
