@@ -1,5 +1,5 @@
 -- What the code of the rules makes is what the rules make.
-use Rattle.std.proofs.Common.{◌≡◌, ℕ, ◌+◌, ◌<◌, ◌≤◌, ◌^◌, List, [], ◌∷◌, ◌++◌, length, Bool, true, false, refl, sym, ap, subst, ◌∙◌, arith, map, drop, append_assoc, get_or}
+use Rattle.std.proofs.Common.{◌≡◌, ℕ, ◌+◌, ◌-◌, ◌<◌, ◌≤◌, ◌^◌, List, [], ◌∷◌, ◌++◌, length, Bool, true, false, refl, sym, ap, subst, ◌∙◌, arith, map, drop, append_assoc, get_or}
 use Rattle.std.specs.Prelude.{◌&&◌, slice_get, Some}
 use Rattle.std.specs.List.{list_all}
 use Rattle.std.proofs.lemmas.List.{drop_more}
@@ -69,6 +69,37 @@ if_next x place t xs ys p n e = rw (e, if_is place t xs ys) refl
 pub while_next : (x : Stmt) (place : Place) (t : Condition) (tried : List Compare) (xs : List Stmt) (p n : ℕ) → x ≡ While place t tried xs →
     (rule x p n).next ≡ (rules xs n (n + 1)).next + 1
 while_next x place t tried xs p n e = rw (e, while_is place t tried xs) refl
+
+-- the room of an `if` is room for its first block, for its second, and for the point after them
+pub then_room : (x : Stmt) (place : Place) (t : Condition) (xs ys l1 : List Stmt) (g : Drawn) → x ≡ If place t xs ys → l1 ≡ xs →
+    (rule x g.at g.next).next < 2 ^ 32 → (rules l1 g.next (g.next + 1)).next < 2 ^ 32
+then_room x place t xs ys l1 g ex e1 room =
+    let next = if_next x place t xs ys g.at g.next ex in
+    let first = rules xs g.next (g.next + 1) in
+    let more = list_grows ys first.next (first.next + 1) in
+    rw e1 (omega arith)
+
+pub else_room : (x : Stmt) (place : Place) (t : Condition) (xs ys l1 l2 : List Stmt) (g g1 : Drawn) (p : ℕ) → x ≡ If place t xs ys → l1 ≡ xs → l2 ≡ ys →
+    g1 ≡ extended (branched p place (ways t true) false g) (rules l1 g.next (g.next + 1)) →
+    (rule x g.at g.next).next < 2 ^ 32 → (rules l2 g1.next (g1.next + 1)).next + 1 < 2 ^ 32
+else_room x place t xs ys l1 l2 g g1 p ex e1 e2 h1 room =
+    let next = if_next x place t xs ys g.at g.next ex in
+    rw (h1, e2, e1) (omega arith)
+
+pub join_room : (x : Stmt) (place : Place) (t : Condition) (xs ys l1 l2 : List Stmt) (g g1 g2 : Drawn) (p : ℕ) → x ≡ If place t xs ys → l1 ≡ xs → l2 ≡ ys →
+    g1 ≡ extended (branched p place (ways t true) false g) (rules l1 g.next (g.next + 1)) →
+    g2 ≡ extended (branched p place (ways t false) false g1) (rules l2 g1.next (g1.next + 1)) →
+    (rule x g.at g.next).next < 2 ^ 32 → g2.next < 2 ^ 32 - 1
+join_room x place t xs ys l1 l2 g g1 g2 p ex e1 e2 h1 h2 room =
+    let more = else_room x place t xs ys l1 l2 g g1 p ex e1 e2 h1 room in
+    rw h2 (omega arith)
+
+-- and that of a `while` is room for its block and for the point after it
+pub body_room : (x : Stmt) (place : Place) (t : Condition) (tried : List Compare) (xs l1 : List Stmt) (rows : List Linear) (g g0 : Drawn) → x ≡ While place t tried xs → l1 ≡ xs →
+    g0 ≡ headed rows g → (rule x g.at g.next).next < 2 ^ 32 → (rules l1 g0.next (g0.next + 1)).next + 1 < 2 ^ 32
+body_room x place t tried xs l1 rows g g0 ex e1 h0 room =
+    let next = while_next x place t tried xs g.at g.next ex in
+    rw (h0, e1) (omega arith)
 
 -- ---- a list of statements, of which the first are done
 

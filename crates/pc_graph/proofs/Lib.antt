@@ -12,3 +12,4 @@ pub mod Witness
 pub mod Ready
 pub mod Growing
 pub mod Drawing
+pub mod Weights

@@ -18,6 +18,7 @@ use Rattle.pc_syntax.specs.declared.tree.Stmt.{Stmt, fold-roll-Stmt}
 use Rattle.pc_syntax.specs.declared.tree.Stmt.TheVariants.{If, While, Assert, Assume, rolls-If, rolls-While, rolls-Assert, rolls-Assume}
 use Rattle.pc_syntax.specs.declared.tree.Stmt.TheOpen as stmt
 use Rattle.pc_syntax.proofs.Results.{and_is, and_of}
+use Rattle.pc_graph.specs.declared.what.TheConstants.{TEST_ROWS}
 use Rattle.pc_graph.proofs.Tests.{rows_found}
 use Rattle.pc_graph.proofs.Unrolled.{sane-if, sane-while}
 
@@ -85,7 +86,18 @@ test_ready n [] h = absurd (cc)
 test_ready n (c ∷ []) h = (omega arith, and_of (has_sane_rows c) true (has_sane n c h) refl)
 test_ready n (c ∷ d ∷ cs) h = each_ready n (c ∷ d ∷ cs) h
 
+-- the rows of what is ready
+pub ready_fit : (cs : List Compare) (rows : List Linear) → rows ≡ rows_all cs → IsReady cs → list_all row_fits rows ≡ true
+ready_fit cs rows e h = ap (list_all row_fits) e ∙ rows_fit cs h.1
+
+pub ready_few : (cs : List Compare) (rows : List Linear) → rows ≡ rows_all cs → IsReady cs → length rows ≤ TEST_ROWS
+ready_few cs rows e h = let a = ap length e in let b = rows_few cs in let f = h.0 in omega arith
+
 -- ---- statements
+
+-- the comparisons that the code reads off a list are those of the statement
+pub sane_slice : (cs ds : List Compare) → ds ≡ cs → IsReady cs → list_all has_sane_rows ds ≡ true
+sane_slice cs ds e h = ap (list_all has_sane_rows) e ∙ h.1
 
 pub assert_ready : (n : ℕ) (x : Stmt) (p : Place) (cs : List Compare) → x ≡ Assert p cs → sane_stmt n x ≡ true → IsReady cs
 assert_ready n x p cs e h =
