@@ -13,3 +13,4 @@ pub mod Ready
 pub mod Growing
 pub mod Drawing
 pub mod Weights
+pub mod Shapes

@@ -3,7 +3,7 @@ use Rattle.std.specs.Prelude.{ℕ, ◌+◌, List, [], ◌∷◌, ◌++◌, Bool,
 use Rattle.pc_text.specs.declared.place.Place.{Place}
 use Rattle.pc_rows.specs.Linear.{Linear}
 use Rattle.pc_graph.specs.declared.draft.Loop.{Loop}
-use Rattle.pc_graph.specs.Arc.{What, Test, Arc, arc}
+use Rattle.pc_graph.specs.Arc.{What, Enter, Test, Arc, arc}
 use Rattle.pc_graph.specs.Lowering.{Piece, tests, all_alike}
 
 -- the present point, the number of the next one, and what there is, each list in order
@@ -59,3 +59,8 @@ turned p g = with_edge (arc g.at p (Test [])) false g
 abbrev pub headed : List Linear → Drawn → Drawn
 headed tried g =
     record { at = g.at; next = g.next; places = g.places; edges = g.edges; bodies = g.bodies; loops = g.loops ++ record { head = g.at; tried = tried } ∷ [] }
+
+-- the entry, the start, and the edge from one to the other
+abbrev pub entered : Place → ℕ → Drawn
+entered place params =
+    record { at = 1; next = 2; places = place ∷ place ∷ []; edges = arc 0 1 (Enter params) ∷ []; bodies = false ∷ []; loops = [] }

@@ -1,6 +1,7 @@
 //! Points and edges: the graph of a program, and rows that are carried back over its edges.
 #![tactic(auto)]
 
+mod assembly;
 mod backward;
 mod draft;
 mod edge;

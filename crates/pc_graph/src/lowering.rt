@@ -4,10 +4,11 @@ ghost use Rattle.std.specs.Prelude.{◌≡◌, ◌<◌, ◌≤◌, ◌+◌, ◌^
 ghost use Rattle.pc_rows.specs.declared.row.TheConstants.{VARIABLES};
 ghost use Rattle.pc_syntax.specs.Sane.{sane_stmt, sane_stmts, sane_test, sane_right};
 ghost use Rattle.pc_graph.specs.Arc.{IsFit};
-ghost use Rattle.pc_graph.specs.Drawn.{extended, branched};
-ghost use Rattle.pc_graph.specs.Lowering.{rule, rules, assigned, low_end, high_end, graph, points_from, point_at, made};
+ghost use Rattle.pc_graph.specs.Drawn.{extended, branched, entered};
+ghost use Rattle.pc_graph.specs.Lowering.{rule, rules, assigned, low_end, high_end, graph};
 ghost use Rattle.pc_graph.specs.Ways.{ways};
 
+use crate::assembly::points;
 use crate::draft::Draft;
 use crate::graph::Graph;
 use crate::what::What;
@@ -123,7 +124,30 @@ fn high_end(choice: &Option<Choice>) -> Bound
 pub fn lower(alloc: Global, p: &Program) -> Result<Graph, NoMemory>
     ensures { IfOk result (λ g. g ≡ graph p.now) }
 {
-    let _alloc = alloc;
-    let _p = p;
-    Err(NoMemory)
+    let variables = p.names.len();
+    let params = p.names.params();
+    let mut draft = entered(alloc, p.place, params)?;
+    lower_list(alloc, variables, p.body.as_slice(), &mut draft)?;
+    let Draft {
+        at: _,
+        next: _,
+        places,
+        edges,
+        bodies,
+        loops,
+    } = draft;
+    let points = points(alloc, loops.as_slice(), places.as_slice())?;
+    Ok(Graph::new(params, variables, points, edges, bodies))
+}
+
+/// The entry, the start, and the edge from one to the other.
+fn entered(alloc: Global, place: Place, params: u32) -> Result<Draft, NoMemory>
+    requires { params ≤ VARIABLES }
+    ensures { IfOk result (λ draft. draft ≡ entered place params) }
+{
+    let mut draft = Draft::new(alloc, 0, 0);
+    draft.point(place)?;
+    draft.point(place)?;
+    draft.edge(0, 1, What::Enter { params }, false)?;
+    Ok(draft)
 }
