@@ -14,3 +14,5 @@ pub mod Growing
 pub mod Drawing
 pub mod Weights
 pub mod Shapes
+pub mod Counts
+pub mod Graphs

@@ -69,7 +69,7 @@ all_have n (c ∷ cs) h =
     let a = and_is (not (is_unequal c.op) && sane_compare n c) (list_all (λ c. not (is_unequal c.op) && sane_compare n c) cs) h in
     and_of (has_sane_rows c) (list_all has_sane_rows cs) (has_sane n c (and_is (not (is_unequal c.op)) (sane_compare n c) a.0).1) (all_have n cs a.1)
 
-le_of : (a b : ℕ) → nat_le a b ≡ true → a ≤ b
+pub le_of : (a b : ℕ) → nat_le a b ≡ true → a ≤ b
 le_of a b h = grind (arith, nat_tests)
 
 pub each_ready : (n : ℕ) (cs : List Compare) → sane_each n cs ≡ true → IsReady cs

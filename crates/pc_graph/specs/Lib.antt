@@ -10,3 +10,4 @@ pub mod Walk
 pub mod Corresponds
 pub mod Carry
 pub mod Exact
+pub mod Straight

@@ -2,6 +2,7 @@
 
 ghost use Rattle.pc_graph.specs.Carry.{CarryingIsExact, OwedIsEnough};
 ghost use Rattle.pc_graph.specs.Corresponds.{StepsCorrespond};
+ghost use Rattle.pc_graph.specs.Straight.{GraphsAreKept};
 ghost use Rattle.pc_graph.specs.Exact.{PaidIsSafe, BrokenHasWalk, OwedIsNeeded};
 
 /// A program and its graph take the same steps.
@@ -32,4 +33,9 @@ pub fn broken_has_walk()
 /// Without tests and loops a safe entry state meets what is owed.
 pub fn owed_is_needed()
     ensures { OwedIsNeeded }
+{}
+
+/// The graph of a program keeps what every graph keeps.
+pub fn graphs_are_kept()
+    ensures { GraphsAreKept }
 {}

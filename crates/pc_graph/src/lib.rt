@@ -17,7 +17,7 @@ pub use edge::Edge;
 pub use graph::Graph;
 pub use lowering::lower;
 pub use laws::{
-    broken_has_walk, carrying_is_exact, owed_is_enough, owed_is_needed, paid_is_safe,
+    broken_has_walk, carrying_is_exact, graphs_are_kept, owed_is_enough, owed_is_needed, paid_is_safe,
     steps_correspond,
 };
 pub use point::PointInfo;
