@@ -98,7 +98,7 @@ graph_kept p =
       variables = k.variables;
       points = omega arith;
       edges = omega arith;
-      bodies = ap (λ n. 1 + n) f.bodies;
+      bodies = ap suc f.bodies;
       enters = refl;
       entry = no_head a.loops f.heads;
       leads = (
@@ -110,25 +110,40 @@ graph_kept p =
 
 -- ---- what the code puts together
 
-pub room : (p : Program) (list : List Stmt) → list ≡ p.body → (rules list 1 2).next < 2 ^ 32
-room p list e =
+pub room : (p : Program) (list : List Stmt) (params : ℕ) (d : Drawn) → list ≡ p.body → d ≡ entered p.place params → (rules list d.at d.next).next < 2 ^ 32
+room p list params d e ed =
     let k1 = (keeps p).edges in
     let f = made_shape p in
     let f2 = f.few in
     let count = all_counted p.body 1 2 in
-    subst (λ ss. (rules ss 1 2).next < 2 ^ 32) (sym e) (omega arith)
+    rw (ed, e) (omega arith)
 
-pub places_few : (p : Program) (list : List Stmt) (g : Drawn) → list ≡ p.body → g ≡ extended (entered p.place p.names.params) (rules list 1 2) → length g.places < 2 ^ 32
-places_few p list g e made_by =
+pub places_few : (p : Program) (list : List Stmt) (params : ℕ) (d g : Drawn) → list ≡ p.body → d ≡ entered p.place params → g ≡ extended d (rules list d.at d.next) →
+    length g.places < 2 ^ 32
+places_few p list params d g e ed made_by =
     let k1 = (keeps p).edges in
     let f = made_shape p in
     let f1 = f.points in
     let f2 = f.few in
     let count = all_counted p.body 1 2 in
-    rw (made_by, e) (omega arith)
+    rw (made_by, ed, e) (omega arith)
 
--- the code's parts are those of the graph
-pub graph_made : (p : Program) (list : List Stmt) (g : Drawn) (params variables : ℕ) (points : List PointInfo) → list ≡ p.body → params ≡ p.names.params →
-    variables ≡ length p.names.names → g ≡ extended (entered p.place params) (rules list 1 2) → points ≡ points_from g.loops 0 g.places →
-    ◌≡◌ {A = Flow} (record { params = params; variables = variables; points = points; edges = g.edges; bodies = g.bodies }) (graph p)
-graph_made p list g params variables points e1 e2 e3 made_by e4 = rw (e4, made_by, e1, e2, e3) refl
+abbrev flow_of : ℕ → ℕ → List PointInfo → List Arc → List Bool → Flow
+flow_of params variables points edges bodies = record { params = params; variables = variables; points = points; edges = edges; bodies = bodies }
+
+-- the parts that the code puts together are those of the graph
+pub graph_made : (p : Program) (list : List Stmt) (d g : Drawn) (params variables : ℕ) (loops : List Loop) (places : List Place) (points : List PointInfo) (edges : List Arc) (bodies : List Bool) →
+    list ≡ p.body → params ≡ p.names.params → variables ≡ length p.names.names → d ≡ entered p.place params → g ≡ extended d (rules list d.at d.next) →
+    loops ≡ g.loops → places ≡ g.places → edges ≡ g.edges → bodies ≡ g.bodies → points ≡ points_from loops 0 places →
+    ◌≡◌ {A = Flow} (record { params = params; variables = variables; points = points; edges = edges; bodies = bodies }) (graph p)
+graph_made p list d g params variables loops places points edges bodies e1 e2 e3 ed made_by el ep ee eb e4 =
+    let n = p.names.params in
+    let v = length p.names.names in
+    let all = extended (entered p.place n) (rules p.body 1 2) in
+    let whole : g ≡ all = made_by ∙ ap (λ (z : Drawn). extended z (rules list z.at z.next)) ed ∙ ap (λ (ss : List Stmt). extended (entered p.place params) (rules ss 1 2)) e1 ∙
+        ap (λ (k : ℕ). extended (entered p.place k) (rules p.body 1 2)) e2 in
+    let ps : points ≡ (graph p).points =
+    e4 ∙ ap (λ (z : List Loop). points_from z 0 places) (el ∙ ap (λ (z : Drawn). z.loops) whole) ∙ ap (λ (z : List Place). points_from all.loops 0 z) (ep ∙ ap (λ (z : Drawn). z.places) whole) in
+    ap (λ (k : ℕ). flow_of k variables points edges bodies) e2 ∙ ap (λ (k : ℕ). flow_of n k points edges bodies) e3 ∙ ap (λ (z : List PointInfo). flow_of n v z edges bodies) ps ∙
+        ap (λ (z : List Arc). flow_of n v (graph p).points z bodies) (ee ∙ ap (λ (z : Drawn). z.edges) whole) ∙
+        ap (λ (z : List Bool). flow_of n v (graph p).points (graph p).edges z) (eb ∙ ap (λ (z : Drawn). z.bodies) whole)
