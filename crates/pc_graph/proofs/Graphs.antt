@@ -25,7 +25,7 @@ use Rattle.pc_graph.proofs.Shapes.{HeadIn, IsUp, Shaped, all_shaped}
 
 -- ---- points
 
-points-length : (loops : List Loop) (b : ℕ) (places : List Place) → length (points_from loops b places) ≡ length places
+pub points-length : (loops : List Loop) (b : ℕ) (places : List Place) → length (points_from loops b places) ≡ length places
 points-length loops b [] = refl
 points-length loops b (place ∷ places) = let h = points-length loops (b + 1) places in omega arith
 

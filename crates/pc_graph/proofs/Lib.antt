@@ -16,3 +16,4 @@ pub mod Weights
 pub mod Shapes
 pub mod Counts
 pub mod Graphs
+pub mod Straights

@@ -2,7 +2,7 @@
 
 ghost use Rattle.pc_graph.specs.Carry.{CarryingIsExact, OwedIsEnough};
 ghost use Rattle.pc_graph.specs.Corresponds.{StepsCorrespond};
-ghost use Rattle.pc_graph.specs.Straight.{GraphsAreKept};
+ghost use Rattle.pc_graph.specs.Straight.{GraphsAreKept, StraightGraphs};
 ghost use Rattle.pc_graph.specs.Exact.{PaidIsSafe, BrokenHasWalk, OwedIsNeeded};
 
 /// A program and its graph take the same steps.
@@ -38,4 +38,10 @@ pub fn owed_is_needed()
 /// The graph of a program keeps what every graph keeps.
 pub fn graphs_are_kept()
     ensures { GraphsAreKept }
+{}
+
+/// Without loops, assumptions and tests but `*` each edge of a program's graph leads up, and every state passes it unless
+/// it is an assertion.
+pub fn straight_graphs()
+    ensures { StraightGraphs }
 {}

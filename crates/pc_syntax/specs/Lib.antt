@@ -2,6 +2,7 @@ pub mod Context
 pub mod Forms
 pub mod Kept
 pub mod Laws
+pub mod Loops
 pub mod Sane
 pub mod Trees
 pub mod Machine

@@ -4,6 +4,7 @@
 mod fault;
 mod laws;
 mod limits;
+mod loops;
 mod normal;
 mod program;
 mod reading;
@@ -14,6 +15,7 @@ mod walk;
 pub use fault::SourceFault;
 pub use laws::{forms_are_right, rows_are_right, walks_are_sane};
 pub use limits::{COMPARISONS, EDGES};
+pub use loops::first_loop;
 pub use normal::{AffineFault, affine};
 pub use pc_grammar::{Bound, Choice, Op};
 pub use pc_text::Names;
