@@ -7,3 +7,4 @@ pub mod Folds
 pub mod WalkedExprs
 pub mod WalkedTests
 pub mod WalkedStmts
+pub mod LoopLemmas
