@@ -101,13 +101,13 @@ module _ (w u : State → ℤ) (a b : Linear) (x : Forms w a) (y : Forms u b) (p
 
   sum_forms : IfOk (fits (Past p) (sum_of a b)) (Forms (λ s. w s +ℤ u s))
   sum_forms = fits_forms (λ s. w s +ℤ u s) p (sum_of a b)
-    (λ s. value-sum a b s ∙ ap (λ (z : ℤ). z +ℤ value b s) (x.worth s) ∙ ap (λ (z : ℤ). w s +ℤ z) (y.worth s))
-    (length-add_lists a.coefficients b.coefficients both_wide ∙ x.wide)
+      (λ s. value-sum a b s ∙ ap (λ (z : ℤ). z +ℤ value b s) (x.worth s) ∙ ap (λ (z : ℤ). w s +ℤ z) (y.worth s))
+      (length-add_lists a.coefficients b.coefficients both_wide ∙ x.wide)
 
   difference_forms : IfOk (fits (Past p) (difference_of a b)) (Forms (λ s. w s -ℤ u s))
   difference_forms = fits_forms (λ s. w s -ℤ u s) p (difference_of a b)
-    (λ s. value-difference a b s ∙ ap (λ (z : ℤ). z -ℤ value b s) (x.worth s) ∙ ap (λ (z : ℤ). w s -ℤ z) (y.worth s))
-    (length-add_lists a.coefficients (negate_list b.coefficients) (both_wide ∙ sym (length-negate_list b.coefficients)) ∙ x.wide)
+      (λ s. value-difference a b s ∙ ap (λ (z : ℤ). z -ℤ value b s) (x.worth s) ∙ ap (λ (z : ℤ). w s -ℤ z) (y.worth s))
+      (length-add_lists a.coefficients (negate_list b.coefficients) (both_wide ∙ sym (length-negate_list b.coefficients)) ∙ x.wide)
 
 negated_forms : (w : State → ℤ) (a : Linear) (p : Place) → Forms w a → IfOk (fits (Past p) (scaled_by (negsuc 0) a)) (Forms (λ s. neg_ℤ (w s)))
 negated_forms w a p x = fits_forms (λ s. neg_ℤ (w s)) p (scaled_by (negsuc 0) a)

@@ -27,4 +27,4 @@ pub found_second : (x : Stmt) (p : Place) (t : Test) (xs ys list more : List Stm
     more ≡ ys → found ≡ first (whiles_of more) → found ≡ first (whiles x)
 found_second x p t xs ys list more found e same none also h =
     h ∙ ap (λ (z : List Stmt). first (whiles_of z)) also ∙ first-right (whiles_of xs) (whiles_of ys) (none ∙ ap (λ (z : List Stmt). first (whiles_of z)) same) ∙
-        ap first (sym (whiles-if x p t xs ys e))
+    ap first (sym (whiles-if x p t xs ys e))

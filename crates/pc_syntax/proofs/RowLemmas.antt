@@ -99,9 +99,10 @@ conjunctions_are_rows [] s h = (λ k. tt, λ k. refl)
 conjunctions_are_rows (c ∷ cs) s h =
     let b = and_is (is_plain c) (list_all is_plain cs) h in
     let one = comparisons_are_rows c s b.0 in
-    let more = conjunctions_are_rows cs s b.1 in
-    (λ k. let p = and_is (holds c s) (all_hold cs s) k in meets_join s (rows_of c) (rows_all cs) (one.0 p.0) (more.0 p.1),
-    λ m. and_of (holds c s) (all_hold cs s) (one.1 (meets_left s (rows_of c) (rows_all cs) m)) (more.1 (meets_right s (rows_of c) (rows_all cs) m)))
+    let more = conjunctions_are_rows cs s b.1 in (
+      λ k. let p = and_is (holds c s) (all_hold cs s) k in meets_join s (rows_of c) (rows_all cs) (one.0 p.0) (more.0 p.1),
+      λ m. and_of (holds c s) (all_hold cs s) (one.1 (meets_left s (rows_of c) (rows_all cs) m)) (more.1 (meets_right s (rows_of c) (rows_all cs) m)),
+    )
 
 -- ---- `!=`
 

@@ -34,7 +34,11 @@ fn first_of(s: &Stmt) -> Option<Place>
 {
     match s {
         Stmt::Set { .. } => None,
-        Stmt::If { then_part, else_part, .. } => match first_in(then_part.as_slice()) {
+        Stmt::If {
+            then_part,
+            else_part,
+            ..
+        } => match first_in(then_part.as_slice()) {
             Some(place) => Some(place),
             None => first_in(else_part.as_slice()),
         },
