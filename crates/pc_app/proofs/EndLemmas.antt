@@ -1,13 +1,13 @@
 -- What follows from how a call ends.
-use Rattle.std.proofs.Common.{◌≡◌, ◌≢◌, ℕ, ◌<◌, ◌≤◌, ◌↔◌, ◌⊎◌, inl, inr, List, length, Option, arith, sym, refl, subst}
-use Rattle.pc_ports.specs.Outside.{Holding, Untold, Nothing, Held, Rose, Appended}
+use Rattle.std.proofs.Common.{◌≡◌, ℕ, ◌<◌, ◌≤◌, ◌↔◌, ◌⊎◌, inl, inr, List, length, Option, arith, refl, subst}
+use Rattle.pc_ports.specs.Outside.{Holding, Untold, Nothing, Held, Rose}
 use Rattle.pc_text.specs.Bytes.{Bytes}
 use Rattle.pc_syntax.specs.declared.program.Program.{Program}
 use Rattle.pc_syntax.specs.Spelling.{Spells}
 use Rattle.pc_app.specs.declared.status.TheConstants.{DONE, USAGE, REFUSED, STORE_FAILED, SINK_FAILED, NO_MEMORY, TOO_LONG}
 use Rattle.pc_app.specs.declared.limits.TheConstants.{SOURCE_BYTES}
 use Rattle.pc_app.specs.Words.{IsInfer, IsPlain}
-use Rattle.pc_app.specs.Answers.{Answers, FileAnswers, SourceAnswers}
+use Rattle.pc_app.specs.Answers.{SourceAnswers}
 use Rattle.pc_app.specs.Silences.{LacksFile}
 use Rattle.pc_app.specs.Promises.{OfBytes, PrintedSuffices, PrintedIsExact, IsAnswered, HasAnswered, IsCutOff, IsComplete, Ends}
 use Rattle.pc_app.specs.Promises.Ends.{Answered, Unread, CutOff, Starved}
@@ -42,8 +42,8 @@ module _ (words : List Bytes) (held : Bytes → Holding) (old new : Option Bytes
       let a = answered ends is in
       let file = infer_answers words held status a.text name infer a.answers in
       of_bytes (λ bytes. PrintedIsExact bytes old new) (held name)
-        (λ bytes e. source_is_exact bytes status a.text old new (file_of_held (held name) bytes status a.text e file) a.written done)
-        (λ e. file_of_nothing (held name) status a.text e file)
+      (λ bytes e. source_is_exact bytes status a.text old new (file_of_held (held name) bytes status a.text e file) a.written done)
+      (λ e. file_of_nothing (held name) status a.text e file)
 
   pub sound : Ended → (name : Bytes) → IsInfer words name → status ≡ DONE → OfBytes (λ bytes. PrintedSuffices bytes old new) (held name)
   sound ends name infer done = suffices_of old new (held name) (exact ends name infer done)

@@ -1,5 +1,5 @@
 -- A file that was fetched is answered as its bytes are.
-use Rattle.std.proofs.Common.{◌≡◌, ℕ, ◌+◌, ◌<◌, ◌≤◌, ◌∙◌, List, length, take, arith, ap, sym, length-take, refl, Result, Ok, Err, IfOk}
+use Rattle.std.proofs.Common.{◌≡◌, ℕ, ◌+◌, ◌≤◌, ◌∙◌, length, take, arith, ap, length-take, refl, Result, Ok, Err, IfOk}
 use Rattle.std.proofs.lemmas.List.{take_all}
 use Rattle.pc_ports.specs.Outside.{Holding, Untold, Nothing, Held, TakenFrom}
 use Rattle.pc_text.specs.declared.text.NoMemory.{NoMemory}

@@ -7,3 +7,6 @@ pub mod AnswerLemmas
 pub mod EndLemmas
 pub mod NeedLemmas
 pub mod StmtLemmas
+pub mod SaneLemmas
+pub mod TameLemmas
+pub mod InferLemmas

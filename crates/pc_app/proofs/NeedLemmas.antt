@@ -1,12 +1,12 @@
 -- The steps of the analysis of a line.
-use Rattle.std.proofs.Common.{◌≡◌, ℕ, zero, suc, ◌+◌, ◌-◌, ◌<◌, ◌≤◌, ◌↔◌, ◌∙◌, List, [], ◌∷◌, ◌++◌, length, drop, get_or, map, refl, sym, ap, subst, arith, Bool, true, false, Result, Ok, Err, Some, slice_get, pos, append_assoc, append-nil, length-append}
+use Rattle.std.proofs.Common.{◌≡◌, ℕ, zero, suc, ◌+◌, ◌<◌, ◌≤◌, ◌↔◌, ◌∙◌, List, [], ◌∷◌, ◌++◌, length, drop, get_or, map, refl, sym, ap, arith, Bool, true, false, Err, Some, slice_get, pos, append_assoc}
 use Rattle.std.specs.List.{list_all, AllByRecursion}
-use Rattle.std.proofs.lemmas.List.{drop_more, drop_all}
+use Rattle.std.proofs.lemmas.List.{drop_more}
 use Rattle.std.proofs.lemmas.List.Folds.{list_all_at}
 use Rattle.std.proofs.lemmas.Option.{slice_get_within, get_or_from_slice_get}
 use Rattle.pc_rows.specs.Linear.{Linear}
 use Rattle.pc_rows.specs.Joins.{joined, with_row, JoinIs}
-use Rattle.pc_rows.specs.Substitution.{substituted, SubstituteFits}
+use Rattle.pc_rows.specs.Substitution.{substituted}
 use Rattle.pc_rows.specs.declared.rows.RowsFault.{RowsFault}
 use Rattle.pc_rows.specs.declared.rows.RowsFault.TheVariants as rows
 use Rattle.pc_rows.specs.declared.rows.TheConstants.{ROWS}

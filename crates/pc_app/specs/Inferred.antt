@@ -1,5 +1,5 @@
 -- What `infer` finds for a program: a condition on its entry states that suffices.
-use Rattle.std.specs.Prelude.{◌≡◌, ◌≤◌, ◌⊎◌, ℕ, true, List, length, All}
+use Rattle.std.specs.Prelude.{◌≡◌, ◌≤◌, ◌⊎◌, true, List, length, All}
 use Rattle.pc_cert.specs.Conditions.{IsWithin}
 use Rattle.pc_rows.specs.Linear.{Linear, MeetsSome}
 use Rattle.pc_rows.specs.declared.rows.TheConstants.{ROWS}

@@ -1,14 +1,13 @@
 -- Lines of assertions and assignments, and the rows that a state has to meet before one so that it violates no assertion.
-use Rattle.std.specs.Prelude.{◌≡◌, ◌≤◌, ◌<◌, ◌↔◌, ℕ, ℤ, pos, Bool, true, false, ◌&&◌, is_none, List, [], ◌∷◌, ◌++◌, length}
+use Rattle.std.specs.Prelude.{◌≡◌, ◌≤◌, ◌<◌, ◌↔◌, ℕ, ℤ, pos, Bool, true, false, ◌&&◌, is_none, List, [], ◌∷◌, ◌++◌, length, Option, Some, None, if◌then◌else◌}
 use Rattle.std.specs.List.{AllByRecursion}
 use Rattle.pc_text.specs.declared.place.Place.{Place}
-use Rattle.pc_rows.specs.Linear.{Linear, value, MeetsAll, first_of}
+use Rattle.pc_rows.specs.Linear.{Linear, value, MeetsAll}
 use Rattle.pc_rows.specs.Joins.{joined}
 use Rattle.pc_rows.specs.Substitution.{substituted, SubstituteFits}
 use Rattle.pc_rows.specs.declared.rows.TheConstants.{ROWS}
 use Rattle.pc_syntax.specs.declared.tree.Stmt.{Stmt, Stmt-F, out-Stmt}
 use Rattle.pc_syntax.specs.declared.tree.Stmt.TheOpen as stmt
-use Rattle.pc_syntax.specs.declared.program.Program.{Program}
 use Rattle.pc_syntax.specs.Values.{State, value_of, all_hold}
 use Rattle.pc_syntax.specs.Machine.{Outcome, Violated, run}
 use Rattle.pc_syntax.specs.Forms.{form, rows_all}
@@ -24,6 +23,19 @@ is_plain (stmt.Assume p cs) = false
 abbrev pub is_line : List Stmt → Bool
 is_line [] = true
 is_line (x ∷ k) = is_plain (out-Stmt x) && is_line k
+
+-- the place of a statement
+abbrev pub place_of : Stmt-F Stmt → Place
+place_of (stmt.Set p v r) = p
+place_of (stmt.If p t xs ys) = p
+place_of (stmt.While p t tried xs) = p
+place_of (stmt.Assert p cs) = p
+place_of (stmt.Assume p cs) = p
+
+-- the place of the first statement that is neither an assertion nor an assignment without a choice, where there is one
+abbrev pub first_other : List Stmt → Option Place
+first_other [] = None
+first_other (x ∷ k) = if is_plain (out-Stmt x) then first_other k else Some (place_of (out-Stmt x))
 
 -- each row carried back over x = form
 abbrev pub carried_back : ℕ → Linear → List Linear → List Linear
@@ -67,15 +79,6 @@ StepMeant n (stmt.Assume p cs) = Unit {0}
 abbrev pub LineMeant : ℕ → List Stmt → Type 0
 LineMeant n [] = Unit {0}
 LineMeant n (x ∷ k) = StepMeant n (out-Stmt x) × LineMeant n k
-
--- each row with its coefficients at the first n variables alone, as it is where the others are 0
-abbrev pub entered : ℕ → List Linear → List Linear
-entered n [] = []
-entered n (r ∷ rows) = first_of n r ∷ entered n rows
-
--- the rows over the parameters that an entry state of a line has to meet
-abbrev pub entry_rows : Program → List Linear
-entry_rows p = joined [] (entered p.names.params (need p.body))
 
 -- some list of choices leads the machine to a violated assertion
 abbrev pub HasViolation : Outcome → Type 0

@@ -1,5 +1,5 @@
 -- The lines that tell what kept a command from its output.
-use Rattle.std.specs.Prelude.{◌≡◌, ◌++◌, ℤ, pos, codes}
+use Rattle.std.specs.Prelude.{◌++◌, ℤ, pos, codes}
 use Rattle.pc_text.specs.declared.place.Place.{Place}
 use Rattle.pc_text.specs.Numerals.{numeral}
 use Rattle.pc_text.specs.Bytes.{Bytes}
@@ -36,8 +36,11 @@ fault_text (fault.FormPast p) = codes "form-past " ++ place_text p
 fault_text (fault.Unequal p) = codes "unequal " ++ place_text p
 fault_text (fault.EmptyInterval p lo hi) = codes "empty-interval " ++ place_text p ++ also lo ++ also hi
 fault_text (fault.TooManyEdges p) = codes "too-many-edges " ++ place_text p
-fault_text fault.NotBuilt = codes "not-built"
 fault_text fault.NoMemory = codes "no-memory"
+
+-- what is told of a program that is not analysed yet: the first statement that keeps it from being a line
+abbrev pub not_built_text : Place → Bytes
+not_built_text p = codes "not-built " ++ place_text p
 
 -- the line of a refused source
 abbrev pub refused : Bytes → Bytes

@@ -1,5 +1,5 @@
 -- The words of a command line, each a list of bytes, and the plain forms that they can have.
-use Rattle.std.specs.Prelude.{◌≡◌, ◌≢◌, ℕ, List, [], ◌∷◌, codes}
+use Rattle.std.specs.Prelude.{◌≡◌, ◌≢◌, List, [], ◌∷◌, codes}
 use Rattle.pc_text.specs.Bytes.{Bytes}
 use Rattle.pc_app.specs.declared.words.Command.{Command}
 use Rattle.pc_app.specs.declared.words.Command.TheVariants.{Infer}

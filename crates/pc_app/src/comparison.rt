@@ -51,11 +51,7 @@ fn comparison_rows(alloc: Global, compare: &Compare) -> Result<Rows, NoMemory>
         Op::AtMost => one(alloc, difference(&right, &left)),
         Op::Greater => one(alloc, above(&left, &right)),
         Op::AtLeast => one(alloc, difference(&left, &right)),
-        Op::Equal | Op::Unequal => two(
-            alloc,
-            difference(&left, &right),
-            difference(&right, &left),
-        ),
+        Op::Equal | Op::Unequal => two(alloc, difference(&left, &right), difference(&right, &left)),
     }
 }
 

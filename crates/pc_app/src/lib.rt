@@ -9,6 +9,8 @@ mod need;
 mod refusal;
 mod service;
 mod status;
+#[cfg(test)]
+mod tests;
 mod words;
 
 pub use limits::{ALTERNATIVES, SOURCE_BYTES};

@@ -117,7 +117,8 @@ fn before_assert(alloc: Global, all: &[Compare], rows: &Rows) -> Result<Rows, Ne
 
 /// The rows over the parameters that are left at the entry, where the locals are 0.
 pub(crate) fn entry_rows(alloc: Global, rows: &Rows, params: u32) -> Result<Rows, NoMemory>
-    ensures { IfOk result (λ left. left ≡ at_entry params rows.now) }
+    ensures left { IfOk result (λ left. left ≡ at_entry params rows.now) }
+    ensures most { IfOk result (λ left. length left ≤ ROWS) }
 {
     let firsts = first_rows(alloc, rows, params)?;
     match join(&Rows::new(alloc), &firsts) {

@@ -1,4 +1,4 @@
-pub mod Laws
+pub mod Combinators
 pub mod Series
 pub mod Sets
 pub mod Expressions
@@ -15,3 +15,4 @@ pub mod Scans
 pub mod Sound
 pub mod Unique
 pub mod Spans
+pub mod Examples

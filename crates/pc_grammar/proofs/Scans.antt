@@ -8,7 +8,7 @@ use Rattle.pc_grammar.specs.declared.limits.Past.{Past}
 use Rattle.pc_grammar.specs.Combinators.{Text}
 use Rattle.pc_grammar.specs.Limits.{or_else, braces_after, signs_after, ands_after, is_sign, counted, and_on, counts, start, Within, FirstPast, one_later, past_or, first_past}
 use Rattle.std.proofs.lemmas.Bool.{cases_order}
-use Rattle.pc_grammar.proofs.Laws.{append-nil}
+use Rattle.pc_grammar.proofs.Combinators.{append-nil}
 
 -- ---- the counts go on from one text to the next
 

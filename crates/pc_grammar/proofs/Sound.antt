@@ -11,7 +11,7 @@ use Rattle.pc_grammar.specs.Combinators.{Text, Out, Got, Stops, Syntax, Deep}
 use Rattle.pc_grammar.specs.Programs.{program, is_program, Derives}
 use Rattle.pc_grammar.specs.Limits.{start, counts, first_past, Within, FirstPast}
 use Rattle.pc_grammar.specs.Parsing.{BeginsProgram, Breaks, place_at, IsSyntax, IsPast, Means, front, read_whole, answer, parsed}
-use Rattle.pc_grammar.proofs.Laws.{append-nil}
+use Rattle.pc_grammar.proofs.Combinators.{append-nil}
 use Rattle.pc_grammar.proofs.Programs.{program_laws}
 use Rattle.pc_grammar.proofs.Depths.{never_deep}
 use Rattle.pc_grammar.proofs.Whole.{IsRefusal, Says, says}

@@ -9,7 +9,7 @@ use Rattle.pc_grammar.specs.Combinators.{Text}
 use Rattle.pc_grammar.specs.Programs.{program, is_program, Derives}
 use Rattle.pc_grammar.specs.Limits.{start, counts, counted, Within}
 use Rattle.pc_grammar.specs.Parsing.{BeginsProgram, Breaks, place_at, IsSyntax, IsPast, Means, parsed, Gives, MeansUnless}
-use Rattle.pc_grammar.proofs.Laws.{append-nil}
+use Rattle.pc_grammar.proofs.Combinators.{append-nil}
 use Rattle.pc_grammar.proofs.Programs.{program_laws}
 use Rattle.pc_grammar.proofs.Whole.{one_tree}
 use Rattle.pc_grammar.proofs.Scans.{cut, at_most_or_more, before_past}
@@ -91,8 +91,14 @@ past_past i f g x y =
 
 -- ---- one answer
 
+pub unambiguous : (w : Text) (t u : ProgramTree) → Derives t w → Derives u w → t ≡ u
+unambiguous w t u (n, l) (m, k) = one_tree is_program program program_laws n m t u w l k
+
+pub exists : (i : Text) (end : Place) → (a : Result ProgramTree ParseFault) × Means i end a
+exists i end = (parsed i end, sound i end)
+
 pub unique : (i : Text) (end : Place) (a b : Result ProgramTree ParseFault) → Means i end a → Means i end b → a ≡ b
-unique i end (Ok t) (Ok u) ((n, l), w) ((m, k), v) = ap Ok (one_tree is_program program program_laws n m t u i l k)
+unique i end (Ok t) (Ok u) (d, w) (e, v) = ap Ok (unambiguous i t u d e)
 unique i end (Ok t) (Err (fault.Syntax p)) (d, w) y = absurd (tree_syntax i end p t d y)
 unique i end (Ok t) (Err (fault.TooDeep p)) (d, w) y = absurd (tree_past i _ w y)
 unique i end (Ok t) (Err (fault.TooLong p)) (d, w) y = absurd (tree_past i _ w y)

@@ -9,3 +9,4 @@ pub mod Next
 pub mod Limits
 pub mod Parsing
 pub mod Symbols
+pub mod Laws

@@ -1,10 +1,16 @@
-//! The grammar: from the tokens of a source to its parse tree.
+//! The grammar: from the tokens of a source to its parse tree, or to its one fault.
+//!
+//! [`symbols`] finds the terminal and the place of every token of a text, and [`parse`] reads them.
+//! What symbols mean is defined without reference to any parser: by derivations of the grammar and
+//! by counts for the limits. The code is a recursive descent that stops at the first symbol that
+//! fits no program, and it is proved to answer exactly what is meant.
 #![tactic(auto)]
 
 mod compare;
 mod cursor;
 mod expr;
 mod fault;
+mod laws;
 mod limits;
 mod parsing;
 mod program;
@@ -12,9 +18,12 @@ mod right;
 mod stmt;
 mod symbol;
 mod terminals;
+#[cfg(test)]
+mod tests;
 mod tree;
 
 pub use fault::ParseFault;
+pub use laws::{grammar_is_unambiguous, symbols_have_one_answer};
 pub use limits::{BRACES, COMPARISONS, SIGNS};
 pub use parsing::parse;
 pub use symbol::{Symbol, Terminal};

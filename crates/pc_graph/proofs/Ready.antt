@@ -7,7 +7,7 @@ use Rattle.pc_text.specs.declared.place.Place.{Place}
 use Rattle.pc_grammar.specs.declared.tree.Op.{Op}
 use Rattle.pc_grammar.specs.declared.tree.Op.TheVariants as op
 use Rattle.pc_rows.specs.Linear.{Linear}
-use Rattle.pc_syntax.specs.declared.limits.TheConstants.{COMPARISONS}
+use Rattle.pc_grammar.specs.declared.limits.TheConstants.{COMPARISONS}
 use Rattle.pc_syntax.specs.Forms.{is_unequal, has_rows, row_fits, rows_by, rows_of, rows_all, form}
 use Rattle.pc_syntax.specs.Sane.{sane_expr, sane_compare, sane_each, sane_all, sane_test, sane_right, sane_step, sane_stmt, sane_stmts, has_sane_rows}
 use Rattle.pc_syntax.specs.declared.tree.Compare.{Compare}

@@ -6,7 +6,7 @@ use Rattle.std.specs.List.{AllByRecursion as Each, list_all}
 use Rattle.std.proofs.lemmas.Int.{ints, by_lt_z}
 use Rattle.pc_rows.specs.Linear.{Linear, value, Meets, MeetsAll, negation}
 use Rattle.pc_rows.proofs.Values.{value-negation}
-use Rattle.pc_syntax.specs.declared.limits.TheConstants.{COMPARISONS}
+use Rattle.pc_grammar.specs.declared.limits.TheConstants.{COMPARISONS}
 use Rattle.pc_syntax.specs.Forms.{is_unequal, is_affine, has_rows, is_plain, row_fits, rows_of, rows_all}
 use Rattle.pc_syntax.specs.Sane.{sane_expr, names_below, sane_compare, sane_each, sane_all, sane_test}
 use Rattle.pc_syntax.specs.Values.{State, holds, all_hold, chosen}

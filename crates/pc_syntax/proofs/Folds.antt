@@ -1,5 +1,5 @@
 -- Folds at each kind of expression and statement.
-use Rattle.std.proofs.Common.{◌≡◌, ℕ, ℤ, List, map, ap, sym, ◌∙◌, refl}
+use Rattle.std.proofs.Common.{◌≡◌, ℕ, ℤ, List, map, ap, sym, ◌∙◌}
 use Rattle.pc_text.specs.declared.place.Place.{Place}
 use Rattle.pc_syntax.specs.declared.tree.Expr.{Expr, Expr-F, fold-Expr, fold-roll-Expr}
 use Rattle.pc_syntax.specs.declared.tree.Expr.TheOpen as expr

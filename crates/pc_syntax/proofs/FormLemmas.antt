@@ -1,22 +1,21 @@
 -- The normal form of an expression has its value, and is in range.
 use Rattle.std.proofs.Common.{◌≡◌, ℕ, zero, suc, ◌<◌, ℤ, pos, negsuc, ◌+ℤ◌, ◌-ℤ◌, ◌*ℤ◌, neg_ℤ, refl, sym, ◌∙◌, ap, subst, arith, List, [], ◌∷◌, length, get_or, set, replicate, length-set, Bool, true, false, cond, Result, Ok, Err}
-use Rattle.std.specs.Prelude.{◌&&◌, IfOk, nat_lt, is_ok, if◌then◌else◌}
+use Rattle.std.specs.Prelude.{◌&&◌, IfOk, nat_lt, is_ok}
 use Rattle.std.specs.List.{list_all}
 use Rattle.std.proofs.lemmas.Int.{ints}
 use Rattle.std.proofs.lemmas.Bool.Decides.{nat_tests}
 use Rattle.std.proofs.Math.IntN.{zero-*ℤ}
 use Rattle.pc_text.specs.declared.place.Place.{Place}
-use Rattle.pc_rows.specs.Linear.{Linear, value, dot, sum_of, scaled_by, negate_list, add_lists, scale_list, is_zero, of_constant, with_coefficient, in_range, is_in_range, opposite_of, difference_of, above_of, is_number, fits}
+use Rattle.pc_rows.specs.Linear.{Linear, value, sum_of, scaled_by, negate_list, add_lists, scale_list, of_constant, in_range, is_in_range, difference_of, above_of, is_number, fits}
 use Rattle.pc_rows.specs.declared.row.TheConstants.{VARIABLES}
 use Rattle.pc_rows.proofs.Ring.{mul_comm}
 use Rattle.pc_rows.proofs.Lists.{dot-set, dot-zero}
-use Rattle.pc_rows.proofs.Values.{value-constant, value-sum, value-difference, value-scaled}
-use Rattle.pc_syntax.specs.declared.tree.Expr.{Expr, Expr-F, fold-Expr, fold-roll-Expr}
-use Rattle.pc_syntax.specs.declared.tree.Expr.TheOpen as expr
+use Rattle.pc_rows.proofs.Values.{value-sum, value-difference, value-scaled}
+use Rattle.pc_syntax.specs.declared.tree.Expr.{Expr, fold-roll-Expr}
 use Rattle.pc_syntax.specs.declared.normal.AffineFault.{AffineFault}
 use Rattle.pc_syntax.specs.declared.normal.AffineFault.TheVariants.{NotAffine, Past}
-use Rattle.pc_syntax.specs.Values.{State, value_step, value_of}
-use Rattle.pc_syntax.specs.Forms.{bind, variable, product, form_step, form_of, fit_step, is_fit, is_affine, ok_or, form}
+use Rattle.pc_syntax.specs.Values.{State, value_of}
+use Rattle.pc_syntax.specs.Forms.{bind, variable, product, form_of, is_fit, ok_or, form}
 use Rattle.pc_syntax.specs.Laws.{IsFormOf, IsAffine, FormsAreRight}
 use Rattle.pc_syntax.proofs.Results.{and_is, and_of, bind_keeps, if_keeps}
 use Rattle.pc_syntax.proofs.Exprs.{by_cases}

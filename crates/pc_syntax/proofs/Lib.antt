@@ -1,10 +1,16 @@
 pub mod Results
 pub mod Exprs
 pub mod FormLemmas
+pub mod FitLemmas
 pub mod RowLemmas
 pub mod Trees
 pub mod Folds
 pub mod WalkedExprs
 pub mod WalkedTests
 pub mod WalkedStmts
+pub mod StepLemmas
+pub mod SymbolFits
+pub mod Phrases
+pub mod TreeFits
+pub mod Readings
 pub mod LoopLemmas

@@ -1,8 +1,6 @@
 -- Lemmas on tests and on results that are handed on.
 use Rattle.std.proofs.Common.{◌≡◌, Bool, true, false, refl, Result, Ok, Err}
 use Rattle.std.specs.Prelude.{◌&&◌, not, IfOk, if◌then◌else◌}
-use Rattle.std.specs.List.{list_all}
-use Rattle.std.proofs.Common.{List, [], ◌∷◌}
 use Rattle.pc_syntax.specs.Forms.{bind}
 
 pub and_is : (b c : Bool) → (b && c) ≡ true → (b ≡ true) × (c ≡ true)

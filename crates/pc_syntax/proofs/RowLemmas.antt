@@ -1,6 +1,6 @@
 -- The rows of comparisons say where these hold.
-use Rattle.std.proofs.Common.{◌≡◌, ℤ, pos, ◌+ℤ◌, ◌-ℤ◌, neg_ℤ, ◌≤ℤ◌, List, [], ◌∷◌, ◌++◌, Bool, true, false, refl, sym, ap, subst, ◌∙◌, arith, inl, inr, int_le, int_lt}
-use Rattle.std.specs.Prelude.{◌⊎◌, ◌&&◌, ◌↔◌, not, map}
+use Rattle.std.proofs.Common.{◌≡◌, ℤ, pos, ◌-ℤ◌, ◌≤ℤ◌, List, [], ◌∷◌, ◌++◌, Bool, true, false, refl, sym, ap, ◌∙◌, arith, inl, inr, int_le, int_lt}
+use Rattle.std.specs.Prelude.{◌⊎◌, ◌↔◌, not, map}
 use Rattle.std.specs.List.{list_all}
 use Rattle.std.specs.Ordering.{int_eq}
 use Rattle.std.proofs.lemmas.Int.{ints, by_lt_z}
@@ -12,7 +12,7 @@ use Rattle.pc_grammar.specs.declared.tree.Op.TheVariants as op
 use Rattle.pc_syntax.specs.declared.tree.Compare.{Compare}
 use Rattle.pc_syntax.specs.Values.{State, value_of, compared, holds, all_hold}
 use Rattle.pc_syntax.specs.Forms.{form, is_affine, is_unequal, has_rows, is_plain, rows_by, rows_of, rows_all}
-use Rattle.pc_syntax.specs.Laws.{SomeMet, UnequalIsRows, ComparisonsAreRows, ConjunctionsAreRows, UnequalsAreRows}
+use Rattle.pc_syntax.specs.Laws.{SomeMet, ComparisonsAreRows, ConjunctionsAreRows, UnequalsAreRows}
 use Rattle.pc_syntax.proofs.Results.{and_is, and_of, not_true}
 use Rattle.pc_syntax.proofs.FormLemmas.{value-above, forms_are_right}
 

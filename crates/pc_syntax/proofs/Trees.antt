@@ -1,5 +1,5 @@
 -- Induction over parse trees.
-use Rattle.std.proofs.Common.{◌≡◌, ℕ, ℤ, subst, List, [], ◌∷◌, map}
+use Rattle.std.proofs.Common.{◌≡◌, ℤ, subst, List, [], ◌∷◌, map}
 use Rattle.std.specs.List.{AllByRecursion}
 use Rattle.pc_text.specs.declared.place.Place.{Place}
 use Rattle.pc_grammar.specs.declared.symbol.Symbol.{Symbol}

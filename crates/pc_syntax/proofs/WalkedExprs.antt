@@ -1,5 +1,5 @@
 -- The walk gives expressions with their normal forms.
-use Rattle.std.proofs.Common.{◌≡◌, ℕ, ◌+◌, ◌<◌, ◌≤◌, ℤ, negsuc, refl, sym, ◌∙◌, ap, arith, List, [], ◌∷◌, length, Bool, true, false, cond, Option, Some, None, Result, Ok, Err}
+use Rattle.std.proofs.Common.{◌≡◌, ℕ, ◌+◌, ◌<◌, ◌≤◌, ℤ, negsuc, ◌∙◌, ap, arith, List, [], ◌∷◌, length, Bool, true, false, cond, Option, Some, None, Result, Ok, Err}
 use Rattle.std.specs.Prelude.{◌&&◌, IfOk, IfSome, nat_lt, is_ok, option_map}
 use Rattle.std.specs.Str.{bytes_eq}
 use Rattle.std.proofs.lemmas.Bool.Decides.{nat_tests}
@@ -13,15 +13,15 @@ use Rattle.pc_syntax.specs.declared.tree.Expr.{Expr}
 use Rattle.pc_syntax.specs.declared.tree.Expr.TheVariants as e
 use Rattle.pc_syntax.specs.declared.tree.Expr.TheOpen as expr
 use Rattle.pc_syntax.specs.declared.normal.AffineFault.{AffineFault}
-use Rattle.pc_syntax.specs.declared.normal.AffineFault.TheVariants.{NotAffine, Past}
+use Rattle.pc_syntax.specs.declared.normal.AffineFault.TheVariants.{Past}
 use Rattle.pc_syntax.specs.declared.fault.SourceFault.{SourceFault}
 use Rattle.pc_syntax.specs.declared.walk.Formed.{Formed}
 use Rattle.pc_text.specs.Named.{number_of}
 use Rattle.pc_text.specs.Bytes.{Bytes}
 use Rattle.pc_syntax.specs.Forms.{bind, variable, product, form_step, form_of, fit_step, is_fit, is_affine}
 use Rattle.pc_syntax.specs.Sane.{below_step, names_below, sane_expr}
-use Rattle.pc_syntax.specs.Context.{word, known, resolved, lifted, formed, expr_step, checked_expr}
-use Rattle.pc_syntax.specs.Trees.{fit_expr_step, fit_expr}
+use Rattle.pc_syntax.specs.Context.{word, known, resolved, formed, expr_step, checked_expr}
+use Rattle.pc_syntax.specs.Trees.{fit_expr}
 use Rattle.pc_syntax.proofs.Results.{and_is, and_of, bind_keeps}
 use Rattle.pc_syntax.proofs.Trees.{by_expr}
 use Rattle.pc_syntax.proofs.Folds.{fold-num, fold-name, fold-neg, fold-add, fold-sub, fold-mul}

@@ -1,5 +1,5 @@
 -- The walk gives statements that keep the context rules, and counts their edges.
-use Rattle.std.proofs.Common.{◌≡◌, ℕ, ◌+◌, ◌≤◌, refl, sym, ◌∙◌, ap, subst, arith, List, [], ◌∷◌, ◌++◌, length, map, sum, Bool, true, false, cond, Option, Some, None, Result, Ok, Err, length-append}
+use Rattle.std.proofs.Common.{◌≡◌, ℕ, ◌+◌, ◌≤◌, refl, sym, ◌∙◌, ap, subst, arith, List, [], ◌∷◌, ◌++◌, length, map, sum, Bool, true, false, cond, Result, Ok, Err, length-append}
 use Rattle.std.specs.Prelude.{◌&&◌, IfOk, nat_lt, nat_le, is_some}
 use Rattle.std.specs.List.{AllByRecursion, list_all}
 use Rattle.std.proofs.lemmas.List.Sums.{sum-map, sum_by-cons}
@@ -15,15 +15,13 @@ use Rattle.pc_grammar.specs.declared.tree.StmtTree.TheOpen as tree_stmt
 use Rattle.pc_grammar.specs.declared.tree.ProgramTree.{ProgramTree}
 use Rattle.pc_syntax.specs.declared.limits.TheConstants.{EDGES}
 use Rattle.pc_syntax.specs.declared.tree.Compare.{Compare}
-use Rattle.pc_syntax.specs.declared.tree.Test.{Test}
-use Rattle.pc_syntax.specs.declared.tree.Right.{Right}
 use Rattle.pc_syntax.specs.declared.tree.Stmt.{Stmt}
 use Rattle.pc_syntax.specs.declared.tree.Stmt.TheVariants as s
 use Rattle.pc_syntax.specs.declared.fault.SourceFault.{SourceFault}
 use Rattle.pc_syntax.specs.declared.fault.SourceFault.TheVariants as fault
 use Rattle.pc_syntax.specs.declared.walk.Counted.{Counted}
 use Rattle.pc_syntax.specs.declared.walk.CountedList.{CountedList}
-use Rattle.pc_text.specs.Named.{number_of}
+use Rattle.pc_text.specs.Named.{Named, number_of}
 use Rattle.pc_text.specs.Bytes.{Bytes}
 use Rattle.pc_syntax.specs.Forms.{bind}
 use Rattle.pc_syntax.specs.Sane as sane
@@ -203,7 +201,7 @@ declare_counts : (src : Bytes) (names : List Bytes) (symbol : Symbol) → IfOk (
 declare_counts src names symbol = by (is_some (number_of names (walk.word src symbol))) (nat_lt (length names) VARIABLES) refl
   where
     by : (a b : Bool) → nat_lt (length names) VARIABLES ≡ b →
-        IfOk {T = List Bytes} {E = SourceFault} (cond a (Err (fault.DuplicateName symbol.place)) (cond b (Ok (names ++ walk.word src symbol ∷ [])) (Err (fault.TooManyNames symbol.place)))) (AreDeclared (length names + 1))
+        IfOk {T = List Bytes} {E = SourceFault} (bind {A = Unit {0}} (cond a (Err (fault.DuplicateName symbol.place)) (cond b (Ok tt) (Err (fault.TooManyNames symbol.place)))) (λ u. Ok (names ++ walk.word src symbol ∷ []))) (AreDeclared (length names + 1))
     by true b e = tt
     by false false e = tt
     by false true e =
@@ -225,6 +223,16 @@ declared_counts src names (symbol ∷ symbols) few =
     by more h (Ok xs) k = let c = h.count in let d = k.count in record { count = omega arith; few = k.few }
     by more h (Err e) k = tt
 
+names_declared : (src : Bytes) (tree : ProgramTree) → IfOk (walk.checked_names src tree) (AreDeclared (length tree.params + length tree.locals))
+names_declared src tree =
+    bind_keeps (AreDeclared (0 + length tree.params)) (AreDeclared (length tree.params + length tree.locals)) (walk.declared_after src [] tree.params) (λ names. walk.declared_after src names tree.locals)
+    (λ names h. by names h (walk.declared_after src names tree.locals) (declared_counts src names tree.locals h.few))
+    (declared_counts src [] tree.params (omega arith))
+  where
+    by : (names : List Bytes) → AreDeclared (0 + length tree.params) names → (r : Result (List Bytes) SourceFault) → IfOk r (AreDeclared (length names + length tree.locals)) → IfOk r (AreDeclared (length tree.params + length tree.locals))
+    by names h (Ok xs) k = let c = h.count in let d = k.count in record { count = omega arith; few = k.few }
+    by names h (Err e) k = tt
+
 -- ---- programs
 
 at_most_test : (a b : ℕ) → a ≤ b → nat_le a b ≡ true
@@ -234,19 +242,26 @@ walked : (src : Bytes) (n : ℕ) (tree : ProgramTree) → trees.fit_tree n tree 
 walked src n tree fit =
     let f = and_is (list_all (trees.fit_symbol n) tree.params) (list_all (trees.fit_symbol n) tree.locals && trees.fit_stmts n tree.body) fit in
     let g = and_is (list_all (trees.fit_symbol n) tree.locals) (trees.fit_stmts n tree.body) f.1 in
-    bind_keeps (AreDeclared (0 + length (tree.params ++ tree.locals))) (λ c. sane.is_sane c.names c.body ≡ true) (walk.checked_names src tree) _
+    bind_keeps (AreDeclared (length tree.params + length tree.locals)) (λ c. sane.is_sane c.names c.body ≡ true) (walk.checked_names src tree) _
     (λ names d. bind_keeps (AreCounted (length names) 1) (λ c. sane.is_sane c.names c.body ≡ true) (walk.checked_stmts src names tree.body 1) _
     (λ body b.
     let few = d.few in
     let count = d.count in
-    let l = length-append tree.params tree.locals in
     let total = b.total in
     let within = b.within in
     and_of (nat_le (length tree.params) (length names)) _ (at_most_test (length tree.params) (length names) (omega arith))
     (and_of (nat_le (length names) VARIABLES) _ (at_most_test (length names) VARIABLES few)
     (and_of (sane.sane_stmts (length names) body.stmts) _ b.kept (at_most_test (sane.edges_of body.stmts) EDGES (omega arith)))))
     (stmts_counted src names d.few n tree.body g.1 1 (omega arith)))
-    (declared_counts src [] (tree.params ++ tree.locals) (omega arith))
+    (names_declared src tree)
 
 pub walks_are_sane : WalksAreSane
 walks_are_sane src n tree c fit e = subst (λ r. IfOk r (λ c. sane.is_sane c.names c.body ≡ true)) e (walked src n tree fit)
+
+-- what is made of the names and of the statements of a tree
+pub parts_are_sane : (src : Bytes) (n : ℕ) (tree : ProgramTree) (names : Named) (trees' : List StmtTree) (body : CountedList) → trees.fit_tree n tree ≡ true →
+    walk.checked_names src tree ≡ Ok names.names → names.params ≡ length tree.params → trees' ≡ tree.body → walk.checked_stmts src names.names trees' 1 ≡ Ok body → sane.is_sane names body.stmts ≡ true
+parts_are_sane src n tree names trees' body fit h p s k =
+    let checks : walk.checked src tree ≡ Ok (record { place = tree.place; names = record { names = names.names; params = length tree.params }; body = body.stmts }) =
+    rw (h, ← s, k) refl in
+    ap (λ (z : ℕ). sane.is_sane (record { names = names.names; params = z }) body.stmts) p ∙ walks_are_sane src n tree (record { place = tree.place; names = record { names = names.names; params = length tree.params }; body = body.stmts }) fit checks

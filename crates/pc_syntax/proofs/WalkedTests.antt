@@ -1,11 +1,9 @@
 -- The walk gives comparisons whose rows are in range, and `!=` only alone.
-use Rattle.std.proofs.Common.{◌≡◌, ℕ, suc, ◌+◌, ◌≤◌, refl, sym, ◌∙◌, ap, subst, arith, ℤ, List, [], ◌∷◌, length, Bool, true, false, cond, Option, Some, None, Result, Ok, Err}
-use Rattle.std.specs.Prelude.{◌&&◌, ◌||◌, not, IfOk, nat_le, int_lt, int_le, ◌==◌}
+use Rattle.std.proofs.Common.{◌≡◌, ℕ, suc, ◌+◌, ◌≤◌, refl, ◌∙◌, ap, arith, ℤ, List, [], ◌∷◌, length, Bool, true, false, cond, Option, Some, None, Result, Ok, Err}
+use Rattle.std.specs.Prelude.{◌&&◌, ◌||◌, not, IfOk, nat_le, int_lt, int_le}
 use Rattle.std.specs.List.{list_all}
-use Rattle.std.proofs.lemmas.Bool.Decides.{nat_tests}
 use Rattle.std.proofs.lemmas.Int.{ints}
-use Rattle.pc_text.specs.declared.place.Place.{Place}
-use Rattle.pc_rows.specs.Linear.{Linear, in_range}
+use Rattle.pc_rows.specs.Linear.{in_range}
 use Rattle.pc_rows.specs.declared.row.TheConstants.{VARIABLES}
 use Rattle.pc_grammar.specs.declared.tree.Op.{Op}
 use Rattle.pc_grammar.specs.declared.tree.Bound.{Bound}
@@ -15,22 +13,21 @@ use Rattle.pc_grammar.specs.declared.tree.CompareTree.{CompareTree}
 use Rattle.pc_grammar.specs.declared.tree.TestTree.{TestTree}
 use Rattle.pc_grammar.specs.declared.tree.TestTree.TheVariants as tree_test
 use Rattle.pc_grammar.specs.declared.tree.RightTree.{RightTree}
-use Rattle.pc_syntax.specs.declared.limits.TheConstants.{COMPARISONS}
+use Rattle.pc_grammar.specs.declared.limits.TheConstants.{COMPARISONS}
 use Rattle.pc_syntax.specs.declared.tree.Compare.{Compare}
 use Rattle.pc_syntax.specs.declared.tree.Test.{Test}
 use Rattle.pc_syntax.specs.declared.tree.Test.TheVariants as test
-use Rattle.pc_syntax.specs.declared.tree.Right.{Right}
 use Rattle.pc_syntax.specs.declared.normal.AffineFault.TheVariants.{Past}
 use Rattle.pc_syntax.specs.declared.fault.SourceFault.{SourceFault}
 use Rattle.pc_syntax.specs.declared.fault.SourceFault.TheVariants as fault
 use Rattle.pc_syntax.specs.declared.walk.Formed.{Formed}
 use Rattle.pc_text.specs.Bytes.{Bytes}
 use Rattle.pc_syntax.specs.Machine.{end_of}
-use Rattle.pc_syntax.specs.Forms.{bind, ok_or, form, is_unequal, rows_by, rows_of, row_fits, fit_rows}
+use Rattle.pc_syntax.specs.Forms.{bind, ok_or, form, is_unequal, rows_by, rows_of, row_fits}
 use Rattle.pc_syntax.specs.Sane as sane
 use Rattle.pc_syntax.specs.Context as walk
 use Rattle.pc_syntax.specs.Trees as trees
-use Rattle.pc_syntax.proofs.Results.{and_is, and_of, not_true, bind_keeps, if_keeps}
+use Rattle.pc_syntax.proofs.Results.{and_is, and_of, bind_keeps}
 use Rattle.pc_syntax.proofs.WalkedExprs.{IsFormed, formed_sane, walked_expr}
 
 -- ---- one comparison

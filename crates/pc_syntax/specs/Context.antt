@@ -4,8 +4,6 @@ use Rattle.pc_text.specs.declared.place.Place.{Place}
 use Rattle.pc_rows.specs.Linear.{Linear, sum_of, difference_of, scaled_by, of_constant, fits}
 use Rattle.pc_rows.specs.declared.row.TheConstants.{VARIABLES}
 use Rattle.pc_grammar.specs.declared.symbol.Symbol.{Symbol}
-use Rattle.pc_grammar.specs.declared.tree.Op.{Op}
-use Rattle.pc_grammar.specs.declared.tree.Op.TheVariants as op
 use Rattle.pc_grammar.specs.declared.tree.Choice.{Choice}
 use Rattle.pc_grammar.specs.declared.tree.ExprTree.{ExprTree, ExprTree-F, fold-ExprTree}
 use Rattle.pc_grammar.specs.declared.tree.ExprTree.TheOpen as expr
@@ -21,6 +19,7 @@ use Rattle.pc_syntax.specs.declared.normal.AffineFault.TheVariants as affine
 use Rattle.pc_syntax.specs.declared.fault.SourceFault.{SourceFault}
 use Rattle.pc_syntax.specs.declared.fault.SourceFault.TheVariants as fault
 use Rattle.pc_syntax.specs.declared.limits.TheConstants.{EDGES}
+use Rattle.pc_syntax.specs.Faults.{source_fault}
 use Rattle.pc_syntax.specs.declared.tree.Expr.{Expr}
 use Rattle.pc_syntax.specs.declared.tree.Expr.TheVariants as e
 use Rattle.pc_syntax.specs.declared.tree.Compare.{Compare}
@@ -43,11 +42,14 @@ use Rattle.pc_syntax.specs.Machine.{end_of}
 abbrev pub word : Bytes → Symbol → Bytes
 word src symbol = slice_range src symbol.from symbol.to
 
--- a name that is declared now, after these
-abbrev pub declare : Bytes → List Bytes → Symbol → Result (List Bytes) SourceFault
-declare src names symbol =
+-- a name may be declared after these: it is none of them, and there is room for it
+abbrev pub may_declare : Bytes → List Bytes → Symbol → Result (Unit {0}) SourceFault
+may_declare src names symbol =
     if is_some (number_of names (word src symbol)) then Err (fault.DuplicateName symbol.place)
-    else (if nat_lt (length names) VARIABLES then Ok (names ++ word src symbol ∷ []) else Err (fault.TooManyNames symbol.place))
+    else (if nat_lt (length names) VARIABLES then Ok tt else Err (fault.TooManyNames symbol.place))
+
+abbrev pub declare : Bytes → List Bytes → Symbol → Result (List Bytes) SourceFault
+declare src names symbol = bind (may_declare src names symbol) (λ u. Ok (names ++ word src symbol ∷ []))
 
 -- names that are declared in this order, after those before them
 abbrev pub declared_after : Bytes → List Bytes → List Symbol → Result (List Bytes) SourceFault
@@ -61,11 +63,6 @@ known (Some v) p = Ok v
 
 abbrev pub resolved : Bytes → List Bytes → Symbol → Result ℕ SourceFault
 resolved src names symbol = known (number_of names (word src symbol)) symbol.place
-
--- a fault of a normal form as a fault of the source
-abbrev pub source_fault : AffineFault → SourceFault
-source_fault (affine.NotAffine p) = fault.NotAffine p
-source_fault (affine.Past p) = fault.FormPast p
 
 abbrev pub lifted : {A : Type 0} → Result A AffineFault → Result A SourceFault
 lifted (Ok x) = Ok x
@@ -198,7 +195,7 @@ content_of p = record { place = p.place; names = p.names; body = p.body }
 
 -- the names of a program, its parameters before its locals
 abbrev pub checked_names : Bytes → ProgramTree → Result (List Bytes) SourceFault
-checked_names src tree = declared_after src [] (tree.params ++ tree.locals)
+checked_names src tree = bind (declared_after src [] tree.params) (λ names. declared_after src names tree.locals)
 
 -- the walk over a parse tree: the names, and then the statements, over an edge that leads into the program
 abbrev pub checked : Bytes → ProgramTree → Result Content SourceFault

@@ -1,5 +1,5 @@
 -- Normal forms of expressions, and the rows of comparisons.
-use Rattle.std.specs.Prelude.{ℕ, ℤ, pos, negsuc, List, [], ◌∷◌, ◌++◌, Bool, true, false, ◌&&◌, not, nat_lt, is_ok, Result, Ok, Err, if◌then◌else◌}
+use Rattle.std.specs.Prelude.{ℕ, pos, negsuc, List, [], ◌∷◌, ◌++◌, Bool, true, false, ◌&&◌, not, nat_lt, is_ok, Result, Ok, Err, if◌then◌else◌}
 use Rattle.std.specs.List.{list_all}
 use Rattle.pc_text.specs.declared.place.Place.{Place}
 use Rattle.pc_rows.specs.Linear.{Linear, sum_of, scaled_by, difference_of, above_of, negation, of_constant, with_coefficient, is_number, in_range, is_in_range, fits}

@@ -1,4 +1,5 @@
 pub mod Context
+pub mod Faults
 pub mod Forms
 pub mod Kept
 pub mod Laws
@@ -8,3 +9,4 @@ pub mod Trees
 pub mod Machine
 pub mod Values
 pub mod Spelling
+pub mod Walks

@@ -1,5 +1,5 @@
 -- What every program keeps: the context rules, as a test of its names and of its body.
-use Rattle.std.specs.Prelude.{ℕ, ◌+◌, nat_lt, nat_le, int_le, List, [], ◌∷◌, length, map, sum, Option, Some, None, Bool, true, false, ◌&&◌, not, ◌==◌, if◌then◌else◌}
+use Rattle.std.specs.Prelude.{ℕ, ◌+◌, nat_lt, nat_le, int_le, List, [], ◌∷◌, length, map, sum, Option, Some, None, Bool, true, false, ◌&&◌, not, if◌then◌else◌}
 use Rattle.std.specs.List.{list_all}
 use Rattle.pc_rows.specs.declared.row.TheConstants.{VARIABLES}
 use Rattle.pc_rows.specs.Linear.{in_range}
@@ -8,7 +8,8 @@ use Rattle.pc_grammar.specs.declared.tree.Op.{Op}
 use Rattle.pc_grammar.specs.declared.tree.Bound.{Bound}
 use Rattle.pc_grammar.specs.declared.tree.Bound.TheVariants as bound
 use Rattle.pc_grammar.specs.declared.tree.Choice.{Choice}
-use Rattle.pc_syntax.specs.declared.limits.TheConstants.{COMPARISONS, EDGES}
+use Rattle.pc_grammar.specs.declared.limits.TheConstants.{COMPARISONS}
+use Rattle.pc_syntax.specs.declared.limits.TheConstants.{EDGES}
 use Rattle.pc_syntax.specs.declared.tree.Expr.{Expr, Expr-F, fold-Expr}
 use Rattle.pc_syntax.specs.declared.tree.Expr.TheOpen as expr
 use Rattle.pc_syntax.specs.declared.tree.Compare.{Compare}

@@ -15,7 +15,7 @@ use Rattle.pc_grammar.specs.declared.tree.RightTree.{RightTree}
 use Rattle.pc_grammar.specs.declared.tree.StmtTree.{StmtTree, StmtTree-F, fold-StmtTree}
 use Rattle.pc_grammar.specs.declared.tree.StmtTree.TheOpen as stmt
 use Rattle.pc_grammar.specs.declared.tree.ProgramTree.{ProgramTree}
-use Rattle.pc_syntax.specs.declared.limits.TheConstants.{COMPARISONS}
+use Rattle.pc_grammar.specs.declared.limits.TheConstants.{COMPARISONS}
 use Rattle.pc_rows.specs.Linear.{in_range}
 use Rattle.pc_syntax.specs.Sane.{all_true}
 

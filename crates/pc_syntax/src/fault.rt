@@ -1,4 +1,7 @@
-use pc_text::Place;
+use crate::normal::AffineFault;
+use pc_grammar::ParseFault;
+use pc_text::{LexFault, NoMemory, Place};
+use std::alloc::AllocError;
 
 /// Why a text is no program: the first rule that it breaks, and where.
 #[derive(Clone, Copy, Debug, PartialEq, Eq)]
@@ -31,7 +34,74 @@ pub enum SourceFault {
     EmptyInterval(Place, i128, i128),
     /// The first token of the statement at which the edges exceed 1,024.
     TooManyEdges(Place),
-    /// The reader is not built yet.
-    NotBuilt,
+    /// There is no memory for the program.
     NoMemory,
+}
+
+impl From<AllocError> for SourceFault {
+    ghost use Rattle.std.specs.Prelude.{◌≡◌};
+    ghost use Rattle.pc_syntax.specs.declared.fault.SourceFault.TheVariants.{NoMemory};
+
+    ghost from_gives = { λ _ f. f ≡ NoMemory };
+
+    fn from(_: AllocError) -> SourceFault {
+        SourceFault::NoMemory
+    }
+}
+
+impl From<NoMemory> for SourceFault {
+    ghost use Rattle.std.specs.Prelude.{◌≡◌};
+    ghost use Rattle.pc_syntax.specs.declared.fault.SourceFault.TheVariants.{NoMemory};
+
+    ghost from_gives = { λ _ f. f ≡ NoMemory };
+
+    fn from(_: NoMemory) -> SourceFault {
+        SourceFault::NoMemory
+    }
+}
+
+impl From<LexFault> for SourceFault {
+    ghost use Rattle.std.specs.Prelude.{◌≡◌};
+    ghost use Rattle.pc_syntax.specs.Faults.{of_tokens};
+
+    ghost from_gives = { λ e f. f ≡ of_tokens e };
+
+    fn from(e: LexFault) -> SourceFault {
+        match e {
+            LexFault::BadByte(place, byte) => SourceFault::BadByte(place, byte),
+            LexFault::LiteralTooBig(place) => SourceFault::LiteralTooBig(place),
+            LexFault::NameTooLong(place) => SourceFault::NameTooLong(place),
+            LexFault::NoMemory => SourceFault::NoMemory,
+        }
+    }
+}
+
+impl From<ParseFault> for SourceFault {
+    ghost use Rattle.std.specs.Prelude.{◌≡◌};
+    ghost use Rattle.pc_syntax.specs.Faults.{of_tree};
+
+    ghost from_gives = { λ e f. f ≡ of_tree e };
+
+    fn from(e: ParseFault) -> SourceFault {
+        match e {
+            ParseFault::Syntax(place) => SourceFault::Syntax(place),
+            ParseFault::TooDeep(place) => SourceFault::TooDeep(place),
+            ParseFault::TooLong(place) => SourceFault::TooLong(place),
+            ParseFault::NoMemory => SourceFault::NoMemory,
+        }
+    }
+}
+
+impl From<AffineFault> for SourceFault {
+    ghost use Rattle.std.specs.Prelude.{◌≡◌};
+    ghost use Rattle.pc_syntax.specs.Faults.{source_fault};
+
+    ghost from_gives = { λ e f. f ≡ source_fault e };
+
+    fn from(e: AffineFault) -> SourceFault {
+        match e {
+            AffineFault::NotAffine(place) => SourceFault::NotAffine(place),
+            AffineFault::Past(place) => SourceFault::FormPast(place),
+        }
+    }
 }

@@ -3,6 +3,7 @@
 
 ghost use Rattle.pc_syntax.specs.Laws.{FormsAreRight, ComparisonsAreRows, ConjunctionsAreRows, UnequalsAreRows};
 ghost use Rattle.pc_syntax.specs.Kept.{WalksAreSane};
+ghost use Rattle.pc_syntax.specs.Spelling.{EachTextHasOne, EachTextHasNoMore};
 
 /// A normal form has the value of its expression at every state, and is in range.
 pub fn forms_are_right()
@@ -19,4 +20,10 @@ pub fn rows_are_right()
 /// What the walk makes of a parse tree keeps the context rules.
 pub fn walks_are_sane()
     ensures { WalksAreSane }
+{}
+
+/// Each text spells one program or has one fault.
+pub fn texts_have_one_answer()
+    ensures one { EachTextHasOne }
+    ensures no_more { EachTextHasNoMore }
 {}

@@ -9,15 +9,17 @@ mod normal;
 mod program;
 mod reading;
 mod rows;
+#[cfg(test)]
+mod tests;
 mod tree;
 mod walk;
 
 pub use fault::SourceFault;
-pub use laws::{forms_are_right, rows_are_right, walks_are_sane};
-pub use limits::{COMPARISONS, EDGES};
+pub use laws::{forms_are_right, rows_are_right, texts_have_one_answer, walks_are_sane};
+pub use limits::EDGES;
 pub use loops::first_loop;
 pub use normal::{AffineFault, affine};
-pub use pc_grammar::{Bound, Choice, Op};
+pub use pc_grammar::{Bound, COMPARISONS, Choice, Op};
 pub use pc_text::Names;
 pub use program::Program;
 pub use reading::read;

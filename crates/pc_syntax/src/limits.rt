@@ -1,7 +1,4 @@
 //! The limits of a program.
 
-/// The greatest number of comparisons of a conjunction.
-pub const COMPARISONS: usize = 8;
-
 /// The greatest number of edges of a program, of which the first leads into it.
 pub const EDGES: u32 = 1024;

@@ -7,10 +7,9 @@ ghost use Rattle.pc_rows.specs.declared.rows.TheConstants.{ROWS};
 ghost use Rattle.pc_syntax.specs.Forms.{is_affine, form, rows_of, rows_all};
 ghost use Rattle.pc_syntax.specs.Sane.{has_sane_rows};
 
-use crate::limits::COMPARISONS;
 use crate::normal::affine;
 use crate::tree::{Compare, Expr};
-use pc_grammar::Op;
+use pc_grammar::{COMPARISONS, Op};
 use pc_rows::{Row, Rows};
 use pc_text::NoMemory;
 use std::alloc::Global;

@@ -1,8 +1,24 @@
 //! The walk over a parse tree by the context rules.
 
+ghost use Rattle.std.specs.Prelude.{◌≡◌, true, length};
+ghost use Rattle.pc_syntax.specs.Context.{checked};
+ghost use Rattle.pc_syntax.specs.Spelling.{GivesProgram};
+ghost use Rattle.pc_syntax.specs.Trees.{fit_tree};
+
+mod exprs;
+mod names;
+mod stmts;
+mod tests;
+
+use crate::fault::SourceFault;
+use crate::program::Program;
 use crate::tree::{Expr, Stmt};
+use crate::walk::names::declared;
+use crate::walk::stmts::stmts;
+use pc_grammar::ProgramTree;
 use pc_rows::Row;
 use sqlite_items::Items;
+use std::alloc::Global;
 
 /// An expression with its normal form.
 #[derive(Drop)]
@@ -23,4 +39,19 @@ pub struct Counted {
 pub struct CountedList {
     pub stmts: Items<Stmt>,
     pub edges: u32,
+}
+
+/// The program of a parse tree, or the first context rule that it breaks: the names, and then the
+/// statements, over an edge that leads into the program.
+pub fn walk_tree(alloc: Global, src: &[u8], tree: &ProgramTree) -> Result<Program, SourceFault>
+    requires { fit_tree (length src.now) tree.now ≡ true }
+    ensures { GivesProgram result (checked src.now tree.now) }
+{
+    let names = declared(alloc, src, tree)?;
+    let body = stmts(alloc, src, &names, tree.body.as_slice(), 1)?;
+    Ok(Program {
+        place: tree.place,
+        names,
+        body: body.stmts,
+    })
 }

@@ -1,4 +1,3 @@
-use Rattle.std.proofs.Common.{◌≡◌, ℕ, List}
 use Rattle.pc_app.proofs.FileLemmas.{file_answers}
 use Rattle.pc_app.proofs.answer.answer_to_file.Goals as goal
 

@@ -1,10 +1,10 @@
-use Rattle.std.proofs.Common.{◌≡◌, ◌<◌, ◌∙◌, sym, ap, ◌++◌, [], drop, List, ◌+◌, length, arith}
+use Rattle.std.proofs.Common.{◌<◌, ◌∙◌, sym, ap, ◌++◌, [], drop, List, ◌+◌, length, arith}
 use Rattle.std.proofs.lemmas.Result.{err_from_is_err_and}
 use Rattle.pc_rows.specs.Joins.{joined}
 use Rattle.pc_rows.specs.Linear.{Linear}
 use Rattle.pc_syntax.specs.declared.tree.Compare.{Compare}
-use Rattle.pc_syntax.specs.Forms.{rows_of, rows_all}
-use Rattle.pc_app.proofs.NeedLemmas.{drop_at, join_beyond, joined-append}
+use Rattle.pc_syntax.specs.Forms.{rows_all}
+use Rattle.pc_app.proofs.NeedLemmas.{drop_at, join_beyond}
 use Rattle.pc_app.proofs.comparison.conjunction_rows.Goals as goal
 
 pub returns-in_err-rows : goal.returns-in_err-rows

@@ -6,5 +6,6 @@ use Rattle.pc_app.proofs.comparison.conjunction_rows.Given as goal
 
 abbrev pub invariant-loop-compare : goal.invariant-loop-compare
 invariant-loop-compare l = record {
-    whole : joined l.rows (rows_all (drop l.compare-index l.all)) ≡ joined [] (rows_all l.all);
-    most : length l.rows ≤ ROWS }
+  whole : joined l.rows (rows_all (drop l.compare-index l.all)) ≡ joined [] (rows_all l.all);
+  most : length l.rows ≤ ROWS;
+}

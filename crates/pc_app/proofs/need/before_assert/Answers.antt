@@ -32,5 +32,5 @@ returns c =
     let rows = c.args.rows.now in
     let own : c.in_ok-own.own ≡ joined [] (rows_all c.args.all.now) = c.in_ok-own.ensures.1 in
     let same : c.in_ok-join.field-0 ≡ joined [] (rows_all c.args.all.now ++ rows) =
-        c.in_ok-join.ensures.1 ∙ ap (λ (z : List Linear). joined z rows) own ∙ sym (joined-append [] (rows_all c.args.all.now) rows) in
+    c.in_ok-join.ensures.1 ∙ ap (λ (z : List Linear). joined z rows) own ∙ sym (joined-append [] (rows_all c.args.all.now) rows) in
     (rw same at c.in_ok-join.ensures.0, same)

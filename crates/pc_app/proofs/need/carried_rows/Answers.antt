@@ -1,4 +1,4 @@
-use Rattle.std.proofs.Common.{◌≡◌, ◌∙◌, sym, ap, ◌++◌, [], List, length, arith, pos, length-append}
+use Rattle.std.proofs.Common.{ap, List, length, arith, pos, length-append}
 use Rattle.pc_rows.specs.Linear.{Linear}
 use Rattle.pc_rows.specs.Substitution.{SubstituteFits}
 use Rattle.pc_app.proofs.NeedLemmas.{carried_next, each_next}
@@ -11,4 +11,5 @@ loop-i-preserved c =
     record {
       whole = rw pushed (carried_next c.args.var c.args.form.now c.args.rows.now c.loop-i.i c.at.result.now c.in-Ok.row c.loop-i.carried c.at.ensures c.in-Ok.ensures.1 c.loop-i.invariant.whole);
       long = omega (arith, simp length-append at size);
-      fits = each_next (λ row. SubstituteFits row c.args.var c.args.form.now (pos 0) (pos 0)) c.args.rows.now c.loop-i.i c.at.result.now c.at.ensures c.in-Ok.ensures.0 c.loop-i.invariant.fits }
+      fits = each_next (λ row. SubstituteFits row c.args.var c.args.form.now (pos 0) (pos 0)) c.args.rows.now c.loop-i.i c.at.result.now c.at.ensures c.in-Ok.ensures.0 c.loop-i.invariant.fits;
+    }

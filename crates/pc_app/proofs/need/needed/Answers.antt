@@ -1,10 +1,10 @@
-use Rattle.std.proofs.Common.{◌≡◌, ◌<◌, ◌≤◌, ◌+◌, ◌-◌, ◌∙◌, sym, ap, subst, arith, length, drop, ℕ, List, Err}
+use Rattle.std.proofs.Common.{◌≡◌, ◌<◌, ◌+◌, ◌-◌, ◌∙◌, ap, subst, arith, length, drop, ℕ, List, Err}
 use Rattle.std.proofs.lemmas.Result.{err_from_is_err_and}
 use Rattle.pc_rows.specs.Linear.{Linear}
 use Rattle.pc_syntax.specs.declared.tree.Stmt.{out-Stmt}
 use Rattle.pc_app.specs.Line.{need, need_over, StepFits}
 use Rattle.pc_app.specs.Needed.{IsNeed}
-use Rattle.pc_app.proofs.NeedLemmas.{plain_at, line_beyond, need_next, fits_next}
+use Rattle.pc_app.proofs.NeedLemmas.{plain_at, line_beyond}
 use Rattle.pc_app.proofs.need.needed.Goals as goal
 
 pub before-requires-clause-plain : goal.before-requires-clause-plain

@@ -1,6 +1,3 @@
-use Rattle.std.proofs.Common.{ℕ, List, map, string_bytes}
-use Rattle.pc_ports.specs.Outside.{Holding, Untold, Nothing, Held}
-use Rattle.pc_app.specs.Promises.{OfBytes, PrintedSuffices, PrintedIsExact}
 use Rattle.pc_app.proofs.EndLemmas as ends
 use Rattle.pc_app.proofs.service.serve.Goals as goal
 

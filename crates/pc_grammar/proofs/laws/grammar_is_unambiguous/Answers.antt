@@ -1,0 +1,5 @@
+use Rattle.pc_grammar.proofs.Unique.{unambiguous}
+use Rattle.pc_grammar.proofs.laws.grammar_is_unambiguous.Goals as goal
+
+pub returns : goal.returns
+returns c = unambiguous
