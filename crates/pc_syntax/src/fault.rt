@@ -34,8 +34,6 @@ pub enum SourceFault {
     EmptyInterval(Place, i128, i128),
     /// The first token of the statement at which the edges exceed 1,024.
     TooManyEdges(Place),
-    /// A program that is read and not analysed yet. Reading never answers it.
-    NotBuilt,
     /// There is no memory for the program.
     NoMemory,
 }
