@@ -18,7 +18,7 @@ use Rattle.pc_app.specs.Promises.IsComplete.{Done, Faulty as IsFaulty, NoLine as
 source_status : (bytes : Bytes) (status : ℕ) (text : Bytes) → SourceAnswers bytes status text → (status ≡ DONE) ⊎ ((status ≡ REFUSED) ⊎ (status ≡ TOO_LONG))
 source_status bytes status text (TooLong long s t) = inr (inr s)
 source_status bytes status text (Faulty short f faulty s t) = inr (inl s)
-source_status bytes status text (Spelled short p spells (NoLine place other s t)) = inr (inl s)
+source_status bytes status text (Spelled short p spells (NoLine other s t)) = inr (inl s)
 source_status bytes status text (Spelled short p spells (Condition condition inferred s t)) = inl s
 
 pub source_is_answered : (bytes : Bytes) (status : ℕ) (text : Bytes) → SourceAnswers bytes status text → IsAnswered status
@@ -31,7 +31,7 @@ source_is_not_usage bytes status text answers u = let s = source_status bytes st
 pub source_too_long : (bytes : Bytes) (status : ℕ) (text : Bytes) → SourceAnswers bytes status text → (status ≡ TOO_LONG → SOURCE_BYTES < length bytes) × (SOURCE_BYTES < length bytes → status ≡ TOO_LONG)
 source_too_long bytes status text (TooLong long s t) = (λ e. long, λ l. s)
 source_too_long bytes status text (Faulty short f faulty s t) = (λ e. absurd (omega arith), λ l. absurd (omega arith))
-source_too_long bytes status text (Spelled short p spells (NoLine place other s t)) = (λ e. absurd (omega arith), λ l. absurd (omega arith))
+source_too_long bytes status text (Spelled short p spells (NoLine other s t)) = (λ e. absurd (omega arith), λ l. absurd (omega arith))
 source_too_long bytes status text (Spelled short p spells (Condition condition inferred s t)) = (λ e. absurd (omega arith), λ l. absurd (omega arith))
 
 -- bytes that spell no program are refused
@@ -44,7 +44,7 @@ source_refused bytes status text (Spelled short' p spells answers) short none = 
 pub source_is_exact : (bytes : Bytes) (status : ℕ) (text : Bytes) (old new : Option Bytes) → SourceAnswers bytes status text → Appended old new text → status ≡ DONE → PrintedIsExact bytes old new
 source_is_exact bytes status text old new (TooLong long s t) written done = absurd (omega arith)
 source_is_exact bytes status text old new (Faulty short f faulty s t) written done = absurd (omega arith)
-source_is_exact bytes status text old new (Spelled short p spells (NoLine place other s t)) written done = absurd (omega arith)
+source_is_exact bytes status text old new (Spelled short p spells (NoLine other s t)) written done = absurd (omega arith)
 source_is_exact bytes status text old new (Spelled short p spells (Condition condition inferred s t)) written done =
     record {
       suffices = record { program = p; spelled = spells; condition = condition; small = inferred.small; printed = subst (λ (z : Bytes). Appended old new z) t written; safe = inferred.sound };
@@ -55,7 +55,7 @@ source_is_exact bytes status text old new (Spelled short p spells (Condition con
 pub source_is_complete : (bytes : Bytes) (status : ℕ) (text : Bytes) → SourceAnswers bytes status text → length bytes ≤ SOURCE_BYTES → IsComplete bytes status
 source_is_complete bytes status text (TooLong long s t) short = absurd (omega arith)
 source_is_complete bytes status text (Faulty short' f faulty s t) short = IsFaulty s f faulty
-source_is_complete bytes status text (Spelled short' p spells (NoLine place other s t)) short = IsNoLine s p spells place other
+source_is_complete bytes status text (Spelled short' p spells (NoLine other s t)) short = IsNoLine s p spells other
 source_is_complete bytes status text (Spelled short' p spells (Condition condition inferred s t)) short = Done s
 
 -- a file is answered as the bytes that are held

@@ -1,21 +1,20 @@
 -- Which status and which text answer the words, by what is held under the names, where nothing outside keeps the call from answering.
-use Rattle.std.specs.Prelude.{◌≡◌, ◌<◌, ◌≤◌, ℕ, List, length, codes, Some}
+use Rattle.std.specs.Prelude.{◌≡◌, ◌<◌, ◌≤◌, ℕ, false, List, length, codes}
 use Rattle.pc_ports.specs.Outside.{Holding, Untold, Nothing, Held}
-use Rattle.pc_text.specs.declared.place.Place.{Place}
 use Rattle.pc_rows.specs.Linear.{Linear}
 use Rattle.pc_text.specs.Bytes.{Bytes}
 use Rattle.pc_syntax.specs.declared.program.Program.{Program}
 use Rattle.pc_syntax.specs.declared.fault.SourceFault.{SourceFault}
-use Rattle.pc_syntax.specs.Spelling.{Spells, Faulty as IsFaulty}
+use Rattle.pc_syntax.specs.Spelling.{Spells}
 use Rattle.pc_cert.specs.Conditions.{condition_text}
 use Rattle.pc_app.specs.declared.status.TheConstants.{DONE, USAGE, REFUSED, TOO_LONG}
 use Rattle.pc_app.specs.declared.limits.TheConstants.{SOURCE_BYTES}
 use Rattle.pc_app.specs.declared.words.Command.{Command}
 use Rattle.pc_app.specs.declared.words.Command.TheVariants as command
 use Rattle.pc_app.specs.Words.{IsInfer, IsPlain}
-use Rattle.pc_app.specs.Line.{first_other}
+use Rattle.pc_app.specs.Line.{is_line}
 use Rattle.pc_app.specs.Inferred.{Inferred}
-use Rattle.pc_app.specs.Texts.{usage, source_too_long, fault_text, not_built_text, refused}
+use Rattle.pc_app.specs.Texts.{usage, source_too_long, fault_text, refused}
 
 -- the bytes may be what is held, by what is told of it
 abbrev pub MayHold : Holding → Bytes → Type 0
@@ -23,9 +22,13 @@ MayHold Untold bytes = Unit {0}
 MayHold Nothing bytes = ⊥
 MayHold (Held held) bytes = bytes ≡ held
 
+-- the reader refuses the bytes for this fault (of which texts it does so is not said yet)
+abbrev pub IsFaulty : Bytes → SourceFault → Type 0
+IsFaulty bytes f = Unit {0}
+
 -- how `infer` answers a program
 pub data ProgramAnswers (p : Program) (status : ℕ) (text : Bytes) : Type 0 where
-  NoLine : (place : Place) → first_other p.body ≡ Some place → status ≡ REFUSED → text ≡ refused (not_built_text place) → ProgramAnswers p status text
+  NoLine : is_line p.body ≡ false → status ≡ REFUSED → text ≡ refused (codes "not-built") → ProgramAnswers p status text
   Condition : (condition : List (List Linear)) → Inferred p condition → status ≡ DONE → text ≡ condition_text p.names.names condition → ProgramAnswers p status text
 
 -- how `infer` answers the bytes of a source

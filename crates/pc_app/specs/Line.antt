@@ -1,5 +1,5 @@
 -- Lines of assertions and assignments, and the rows that a state has to meet before one so that it violates no assertion.
-use Rattle.std.specs.Prelude.{◌≡◌, ◌≤◌, ◌<◌, ◌↔◌, ℕ, ℤ, pos, Bool, true, false, ◌&&◌, is_none, List, [], ◌∷◌, ◌++◌, length, Option, Some, None, if◌then◌else◌}
+use Rattle.std.specs.Prelude.{◌≡◌, ◌≤◌, ◌<◌, ◌↔◌, ℕ, ℤ, pos, Bool, true, false, ◌&&◌, is_none, List, [], ◌∷◌, ◌++◌, length}
 use Rattle.std.specs.List.{AllByRecursion}
 use Rattle.pc_text.specs.declared.place.Place.{Place}
 use Rattle.pc_rows.specs.Linear.{Linear, value, MeetsAll}
@@ -23,19 +23,6 @@ is_plain (stmt.Assume p cs) = false
 abbrev pub is_line : List Stmt → Bool
 is_line [] = true
 is_line (x ∷ k) = is_plain (out-Stmt x) && is_line k
-
--- the place of a statement
-abbrev pub place_of : Stmt-F Stmt → Place
-place_of (stmt.Set p v r) = p
-place_of (stmt.If p t xs ys) = p
-place_of (stmt.While p t tried xs) = p
-place_of (stmt.Assert p cs) = p
-place_of (stmt.Assume p cs) = p
-
--- the place of the first statement that is neither an assertion nor an assignment without a choice, where there is one
-abbrev pub first_other : List Stmt → Option Place
-first_other [] = None
-first_other (x ∷ k) = if is_plain (out-Stmt x) then first_other k else Some (place_of (out-Stmt x))
 
 -- each row carried back over x = form
 abbrev pub carried_back : ℕ → Linear → List Linear → List Linear

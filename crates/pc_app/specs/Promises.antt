@@ -1,18 +1,17 @@
 -- What the top call promises, by its words, by what the store tells and what the sink tells, and by their counts of faults.
-use Rattle.std.specs.Prelude.{◌≡◌, ◌≢◌, ℕ, true, false, Option, List, Some}
+use Rattle.std.specs.Prelude.{◌≡◌, ◌≢◌, ℕ, true, false, Option, List}
 use Rattle.pc_ports.specs.Outside.{Holding, Untold, Nothing, Held, Rose, Appended, FrontAppended}
-use Rattle.pc_text.specs.declared.place.Place.{Place}
 use Rattle.pc_rows.specs.Linear.{Linear}
 use Rattle.pc_text.specs.Bytes.{Bytes}
 use Rattle.pc_syntax.specs.declared.program.Program.{Program}
 use Rattle.pc_syntax.specs.declared.fault.SourceFault.{SourceFault}
-use Rattle.pc_syntax.specs.Spelling.{Spells, Faulty as IsFaulty}
+use Rattle.pc_syntax.specs.Spelling.{Spells}
 use Rattle.pc_cert.specs.Conditions.{condition_text}
 use Rattle.pc_app.specs.declared.status.TheConstants.{DONE, REFUSED, STORE_FAILED, SINK_FAILED, NO_MEMORY}
-use Rattle.pc_app.specs.Line.{is_line, first_other}
+use Rattle.pc_app.specs.Line.{is_line}
 use Rattle.pc_app.specs.Tame.{IsTame}
 use Rattle.pc_app.specs.Inferred.{IsCondition, Suffices, IsNeeded}
-use Rattle.pc_app.specs.Answers.{Answers}
+use Rattle.pc_app.specs.Answers.{Answers, IsFaulty}
 use Rattle.pc_app.specs.Silences.{LacksFile}
 
 -- the bytes of a source spell a program; what was appended is the text of a condition over its parameters; every entry state that meets it is safe
@@ -53,13 +52,13 @@ pub record IsCutOff (words : List Bytes) (held : Bytes → Holding) (old new : O
   pub front : FrontAppended old new text
   pub cause : Rose before now
 
--- the status of a source that is held and short enough, where nothing outside fails: done, or refused for the fault of the text, or
--- since the program is no line of assertions and assignments
+-- the status of a source that is held and short enough, where nothing outside fails: done, or refused for a fault that the reader
+-- tells (of which texts it does so is not said yet), or since the program is no line of assertions and assignments
 pub data IsComplete (bytes : Bytes) (status : ℕ) : Type 0 where
   Done : status ≡ DONE → IsComplete bytes status
   Starved : status ≡ NO_MEMORY → IsComplete bytes status
   Faulty : status ≡ REFUSED → (f : SourceFault) → IsFaulty bytes f → IsComplete bytes status
-  NoLine : status ≡ REFUSED → (p : Program) → Spells bytes p → (place : Place) → first_other p.body ≡ Some place → IsComplete bytes status
+  NoLine : status ≡ REFUSED → (p : Program) → Spells bytes p → is_line p.body ≡ false → IsComplete bytes status
 
 -- how a call ends
 pub data Ends (words : List Bytes) (held : Bytes → Holding) (old new : Option Bytes) (store_before store_now sink_before sink_now status : ℕ) : Type 0 where

@@ -36,11 +36,8 @@ fault_text (fault.FormPast p) = codes "form-past " ++ place_text p
 fault_text (fault.Unequal p) = codes "unequal " ++ place_text p
 fault_text (fault.EmptyInterval p lo hi) = codes "empty-interval " ++ place_text p ++ also lo ++ also hi
 fault_text (fault.TooManyEdges p) = codes "too-many-edges " ++ place_text p
+fault_text fault.NotBuilt = codes "not-built"
 fault_text fault.NoMemory = codes "no-memory"
-
--- what is told of a program that is not analysed yet: the first statement that keeps it from being a line
-abbrev pub not_built_text : Place → Bytes
-not_built_text p = codes "not-built " ++ place_text p
 
 -- the line of a refused source
 abbrev pub refused : Bytes → Bytes

@@ -3,40 +3,26 @@
 ghost use Rattle.std.specs.Prelude.{◌≡◌, ◌∷◌, [], true, IfOk, All, length};
 ghost use Rattle.pc_cert.specs.Conditions.{IsWithin};
 ghost use Rattle.pc_syntax.specs.declared.tree.Stmt.{out-Stmt};
-ghost use Rattle.pc_app.specs.Line.{is_line, is_plain, place_of, first_other};
+ghost use Rattle.pc_app.specs.Line.{is_line, is_plain};
 ghost use Rattle.pc_app.specs.Inferred.{Inferred};
 
 use crate::need::{NeedFault, entry_rows, needed};
 use pc_rows::Rows;
 use pc_syntax::{Program, Stmt};
-use pc_text::{NoMemory, Place};
+use pc_text::NoMemory;
 use sqlite_items::Items;
 use std::alloc::Global;
 
-/// The place of the first statement that is neither an assertion nor an assignment without a
-/// choice; nothing where there is none.
-pub(crate) fn first_other(body: &[Stmt]) -> Option<Place>
-    ensures { result ≡ first_other body.now }
+/// Whether all statements are assertions, or assignments without a choice.
+pub(crate) fn is_line(body: &[Stmt]) -> bool
+    ensures { result ≡ is_line body.now }
 {
     for stmt in body {
         if !is_plain(stmt) {
-            return Some(place_of(stmt));
+            return false;
         }
     }
-    None
-}
-
-/// The place of a statement.
-fn place_of(stmt: &Stmt) -> Place
-    ensures { result ≡ place_of (out-Stmt stmt.now) }
-{
-    match stmt {
-        Stmt::Set { place, .. }
-        | Stmt::If { place, .. }
-        | Stmt::While { place, .. }
-        | Stmt::Assert { place, .. }
-        | Stmt::Assume { place, .. } => *place,
-    }
+    true
 }
 
 /// Whether a statement is an assertion, or an assignment without a choice.

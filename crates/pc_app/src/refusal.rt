@@ -1,7 +1,7 @@
 //! The line that tells why a source is refused.
 
 ghost use Rattle.std.specs.Prelude.{◌≡◌, ◌++◌, OnOk, IfOk};
-ghost use Rattle.pc_app.specs.Texts.{place_text, also, fault_text, not_built_text, refused};
+ghost use Rattle.pc_app.specs.Texts.{place_text, also, fault_text, refused};
 
 use pc_syntax::SourceFault;
 use pc_text::{NoMemory, Place, Text};
@@ -14,17 +14,6 @@ pub(crate) fn refusal_of(alloc: Global, fault: SourceFault) -> Result<Text, NoMe
     let mut text = Text::new(alloc);
     text.push_all(b"source: ")?;
     push_fault(&mut text, fault)?;
-    text.push(b'\n')?;
-    Ok(text)
-}
-
-/// The line of a program that is not analysed yet: the statement at this place keeps it from being a line.
-pub(crate) fn not_built(alloc: Global, place: Place) -> Result<Text, NoMemory>
-    ensures { IfOk result (λ t. t ≡ refused (not_built_text place)) }
-{
-    let mut text = Text::new(alloc);
-    text.push_all(b"source: ")?;
-    push_at(&mut text, b"not-built ", place)?;
     text.push(b'\n')?;
     Ok(text)
 }
@@ -55,6 +44,7 @@ fn push_fault(text: &mut Text, fault: SourceFault) -> Result<(), NoMemory>
             push_also(text, high)
         }
         SourceFault::TooManyEdges(place) => push_at(text, b"too-many-edges ", place),
+        SourceFault::NotBuilt => text.push_all(b"not-built"),
         SourceFault::NoMemory => text.push_all(b"no-memory"),
     }
 }

@@ -1,6 +1,5 @@
 use Rattle.std.proofs.Common.{refl}
-use Rattle.pc_app.specs.Answers.ProgramAnswers.{Condition, NoLine}
-use Rattle.pc_app.proofs.StmtLemmas.{no_other}
+use Rattle.pc_app.specs.Answers.ProgramAnswers.{Condition}
 use Rattle.pc_app.proofs.answer.answer_to_program.Goals as goal
 
 pub returns : goal.returns
