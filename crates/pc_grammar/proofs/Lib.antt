@@ -15,3 +15,4 @@ pub mod Scans
 pub mod Sound
 pub mod Unique
 pub mod Spans
+pub mod Examples

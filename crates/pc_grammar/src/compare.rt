@@ -12,6 +12,7 @@ use crate::tree::{CompareTree, Op, TestTree};
 use sqlite_items::Items;
 use std::alloc::Global;
 
+/// What an operator asks.
 fn op_of(terminal: Terminal) -> Op
     ensures { result ≡ spec.op_of terminal }
 {
@@ -25,6 +26,7 @@ fn op_of(terminal: Terminal) -> Op
     }
 }
 
+/// Two expressions and the operator between them.
 fn compare(alloc: Global, cursor: &mut Cursor<'_>, depth: usize) -> Result<CompareTree, Stop>
     requires { length cursor.old.rest.now < depth }
     ensures reads { Reads (spec.compare (paren depth) cursor.old.rest.now) result cursor.new.rest.now }
@@ -41,7 +43,7 @@ fn compare(alloc: Global, cursor: &mut Cursor<'_>, depth: usize) -> Result<Compa
     })
 }
 
-/// A conjunction.
+/// A conjunction: comparisons with `&&` between them, one at least.
 pub fn all(alloc: Global, cursor: &mut Cursor<'_>, depth: usize) -> Result<Items<CompareTree>, Stop>
     requires { length cursor.old.rest.now < depth }
     ensures reads { Reads (spec.all (paren depth) cursor.old.rest.now) result cursor.new.rest.now }
@@ -58,6 +60,7 @@ pub fn all(alloc: Global, cursor: &mut Cursor<'_>, depth: usize) -> Result<Items
     Ok(found)
 }
 
+/// `*` or a conjunction. No expression begins with `*`, so the first symbol tells which.
 fn test(alloc: Global, cursor: &mut Cursor<'_>, depth: usize) -> Result<TestTree, Stop>
     requires { length cursor.old.rest.now < depth }
     ensures reads { Reads (spec.test (paren depth) cursor.old.rest.now) result cursor.new.rest.now }

@@ -1,4 +1,5 @@
-//! A cursor over symbols: what is taken stands before it.
+//! A cursor over symbols. Where the descent stops at a fault, the cursor stands at the symbol at
+//! fault, or at the end of the text: so no error carries a place.
 
 ghost use Rattle.std.specs.Prelude.{◌≡◌, ◌+◌, ◌≤◌, length, OnOk};
 ghost use Rattle.pc_grammar.specs.Combinators.{starts, token};
@@ -14,6 +15,7 @@ use std::alloc::AllocError;
 /// Why the descent has no tree.
 #[derive(Clone, Copy, Debug, PartialEq, Eq)]
 pub enum Stop {
+    /// There was no memory for the tree.
     NoMemory,
     /// The symbol at the cursor, or the end of the text, may not stand there.
     Syntax,
@@ -30,6 +32,7 @@ impl From<AllocError> for Stop {
     }
 }
 
+/// What is left to be read.
 #[derive(Drop)]
 pub struct Cursor<'a> {
     pub rest: &'a [Symbol],
@@ -112,6 +115,7 @@ impl<'a> Cursor<'a> {
     }
 }
 
+/// A number for each terminal. Terminals are compared by it, as in the definitions.
 fn code(terminal: Terminal) -> u8
     ensures { result ≡ spec.code terminal }
 {

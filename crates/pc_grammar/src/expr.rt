@@ -1,4 +1,7 @@
-//! The descent through expressions. Every function takes a `depth` that is above the number of symbols left, so that it outlasts all nesting.
+//! The descent through expressions.
+//!
+//! Every function of the descent takes a `depth`: how many levels of nesting its parser may open.
+//! It is above the number of symbols left, and each level takes a symbol, so it is never spent.
 
 ghost use Rattle.std.specs.Prelude.{◌≡◌, ◌<◌, ◌≤◌, length, IfOk};
 ghost use Rattle.pc_grammar.specs.Expressions as spec;
@@ -10,6 +13,7 @@ use crate::tree::ExprTree;
 use sqlite_items::Boxed;
 use std::alloc::{AllocError, Global};
 
+/// A number, a name, or an expression in parentheses.
 #[cycle(expr)]
 fn atom(alloc: Global, cursor: &mut Cursor<'_>, depth: usize) -> Result<ExprTree, Stop>
     requires { length cursor.old.rest.now < depth }
@@ -27,6 +31,7 @@ fn atom(alloc: Global, cursor: &mut Cursor<'_>, depth: usize) -> Result<ExprTree
     }
 }
 
+/// An atom, or the negation of one.
 #[cycle(expr)]
 fn factor(alloc: Global, cursor: &mut Cursor<'_>, depth: usize) -> Result<ExprTree, Stop>
     requires { length cursor.old.rest.now < depth }
@@ -62,6 +67,7 @@ pub fn addend(alloc: Global, cursor: &mut Cursor<'_>, depth: usize) -> Result<Ex
     Ok(product)
 }
 
+/// An expression in parentheses.
 #[cycle(expr)]
 fn paren(alloc: Global, cursor: &mut Cursor<'_>, depth: usize) -> Result<ExprTree, Stop>
     requires { length cursor.old.rest.now < depth }

@@ -1,4 +1,9 @@
-//! The grammar: from the tokens of a source to its parse tree.
+//! The grammar: from the tokens of a source to its parse tree, or to its one fault.
+//!
+//! [`symbols`] finds the terminal and the place of every token of a text, and [`parse`] reads them.
+//! What symbols mean is defined without reference to any parser: by derivations of the grammar and
+//! by counts for the limits. The code is a recursive descent that stops at the first symbol that
+//! fits no program, and it is proved to answer exactly what is meant.
 #![tactic(auto)]
 
 mod compare;

@@ -1,4 +1,5 @@
-//! The limits on nesting and on lengths, as counts over the symbols.
+//! The limits on nesting and on lengths, as counts over the symbols, apart from the grammar. They
+//! bound the recursion of the descent, which reads no further than the first symbol past a limit.
 
 ghost use Rattle.std.specs.Prelude.{◌≡◌, ◌+◌, ◌<◌, ◌≤◌, length, IfSome};
 ghost use Rattle.pc_grammar.specs.Combinators.{starts};
@@ -38,6 +39,7 @@ pub struct Past {
     pub fault: ParseFault,
 }
 
+/// Whether the terminal is one of the eight keywords.
 fn is_keyword(terminal: Terminal) -> bool
     ensures { result ≡ has spec.keywords terminal }
 {
@@ -70,6 +72,7 @@ fn is_of_expression(terminal: Terminal) -> bool
     }
 }
 
+/// Whether a choice comes next.
 fn begins_choice(rest: &[Symbol]) -> bool
     ensures { result ≡ starts (the Terminal.OpenBracket) rest.now }
 {
@@ -101,6 +104,7 @@ fn one_more(count: usize, limit: usize) -> Option<usize>
     if count < limit { Some(count + 1) } else { None }
 }
 
+/// The open braces after one more symbol.
 fn braces_after(braces: usize, terminal: Terminal) -> Option<usize>
     ensures { result ≡ spec.braces_after braces terminal }
 {
@@ -111,6 +115,8 @@ fn braces_after(braces: usize, terminal: Terminal) -> Option<usize>
     }
 }
 
+/// The signs of the present expression after one more symbol: it ends at each symbol that cannot
+/// stand in one.
 fn signs_after(signs: usize, is_sign: bool, terminal: Terminal) -> Option<usize>
     ensures { result ≡ spec.signs_after signs is_sign terminal }
 {
@@ -123,6 +129,7 @@ fn signs_after(signs: usize, is_sign: bool, terminal: Terminal) -> Option<usize>
     }
 }
 
+/// The `&&` of the present conjunction after one more symbol: a keyword begins another.
 fn ands_after(ands: usize, terminal: Terminal) -> Option<usize>
     ensures { result ≡ spec.ands_after ands terminal }
 {

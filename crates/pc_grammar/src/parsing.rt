@@ -14,6 +14,8 @@ use crate::tree::ProgramTree;
 use pc_text::Place;
 use std::alloc::Global;
 
+/// The fault where the descent stopped: that of syntax at the next symbol; at the end of what was
+/// read, that of the symbol past a limit, or of syntax at the end of the text.
 fn fault_at(past: Option<Past>, end: Place, rest: &[Symbol]) -> ParseFault
     ensures { result ≡ spec.fault_at past end rest.now }
 {
@@ -46,6 +48,7 @@ fn read_front(
     }
 }
 
+/// The answer that the executable definition computes.
 fn read(alloc: Global, symbols: &[Symbol], end: Place) -> Result<ProgramTree, ParseFault>
     ensures { spec.Gives result (spec.parsed symbols.now end) }
 {
@@ -55,8 +58,15 @@ fn read(alloc: Global, symbols: &[Symbol], end: Place) -> Result<ProgramTree, Pa
     }
 }
 
-/// The parse tree of the symbols of a text that ends at `end`. Only the symbols up to and with the
-/// first that is past a limit are read, so nesting is bounded whatever the text.
+/// The parse tree of the symbols of a text, or its fault. `end` is the place behind the text's last
+/// byte, where a fault stands that comes only there.
+///
+/// The answer is what the definition by derivations and limits says (`meant`); whatever that
+/// definition allows is the answer (`only`); and it is what the executable definition computes
+/// (`computed`). `NoMemory` alone may come instead.
+///
+/// Only the symbols up to and with the first that is past a limit are read, so recursion is bounded
+/// whatever the text.
 pub fn parse(alloc: Global, symbols: &[Symbol], end: Place) -> Result<ProgramTree, ParseFault>
     ensures meant { spec.MeansUnless result symbols.now end }
     ensures only { (answer : Result ProgramTree ParseFault) → spec.Means symbols.now end answer → spec.Gives result answer }

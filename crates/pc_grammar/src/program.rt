@@ -13,6 +13,7 @@ use crate::tree::ProgramTree;
 use sqlite_items::Items;
 use std::alloc::Global;
 
+/// Names with commas between them, one at least.
 fn names(alloc: Global, cursor: &mut Cursor<'_>) -> Result<Items<Symbol>, Stop>
     ensures reads { Reads (spec.names cursor.old.rest.now) result cursor.new.rest.now }
     ensures shrinks { length cursor.new.rest.now ≤ length cursor.old.rest.now }
@@ -28,6 +29,7 @@ fn names(alloc: Global, cursor: &mut Cursor<'_>) -> Result<Items<Symbol>, Stop>
     Ok(found)
 }
 
+/// The names of parameters, or none.
 fn optional_names(alloc: Global, cursor: &mut Cursor<'_>) -> Result<Items<Symbol>, Stop>
     ensures reads { Reads (map_parser spec.given (maybe (the Terminal.Name) spec.names) cursor.old.rest.now) result cursor.new.rest.now }
     ensures shrinks { length cursor.new.rest.now ≤ length cursor.old.rest.now }
@@ -39,6 +41,7 @@ fn optional_names(alloc: Global, cursor: &mut Cursor<'_>) -> Result<Items<Symbol
     }
 }
 
+/// The parameters, in parentheses.
 fn params(alloc: Global, cursor: &mut Cursor<'_>) -> Result<Items<Symbol>, Stop>
     ensures reads { Reads (spec.params cursor.old.rest.now) result cursor.new.rest.now }
     ensures shrinks { length cursor.new.rest.now ≤ length cursor.old.rest.now }
@@ -49,6 +52,7 @@ fn params(alloc: Global, cursor: &mut Cursor<'_>) -> Result<Items<Symbol>, Stop>
     Ok(found)
 }
 
+/// The names of one `var` line.
 fn var_line(alloc: Global, cursor: &mut Cursor<'_>) -> Result<Items<Symbol>, Stop>
     ensures reads { Reads (spec.var_line cursor.old.rest.now) result cursor.new.rest.now }
     ensures shrinks { length cursor.new.rest.now ≤ length cursor.old.rest.now }
@@ -60,6 +64,7 @@ fn var_line(alloc: Global, cursor: &mut Cursor<'_>) -> Result<Items<Symbol>, Sto
     Ok(found)
 }
 
+/// The names of all `var` lines, in one list.
 fn locals(alloc: Global, cursor: &mut Cursor<'_>) -> Result<Items<Symbol>, Stop>
     ensures reads { Reads (spec.locals cursor.old.rest.now) result cursor.new.rest.now }
     ensures shrinks { length cursor.new.rest.now ≤ length cursor.old.rest.now }
@@ -72,6 +77,7 @@ fn locals(alloc: Global, cursor: &mut Cursor<'_>) -> Result<Items<Symbol>, Stop>
     Ok(found)
 }
 
+/// A program; what stands behind its last `}` is left.
 fn program(alloc: Global, cursor: &mut Cursor<'_>, depth: usize) -> Result<ProgramTree, Stop>
     requires { length cursor.old.rest.now < depth }
     ensures reads { Reads (spec.program depth cursor.old.rest.now) result cursor.new.rest.now }

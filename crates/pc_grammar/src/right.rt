@@ -13,12 +13,14 @@ use crate::symbol::{Symbol, Terminal};
 use crate::tree::{Bound, Choice, ExprTree, RightTree};
 use std::alloc::Global;
 
+/// The opposite of the value of a number, which is never below 0: so it fits.
 fn opposite(number: i128) -> i128
     ensures { result ≡ spec.opposite number }
 {
     if number > 0 { -number } else { number }
 }
 
+/// A number, with a `-` before it or none.
 fn bound(cursor: &mut Cursor<'_>) -> Result<Bound, Stop>
     ensures reads { Reads (spec.bound cursor.old.rest.now) result cursor.new.rest.now }
     ensures shrinks { length cursor.new.rest.now ≤ length cursor.old.rest.now }
@@ -33,6 +35,7 @@ fn bound(cursor: &mut Cursor<'_>) -> Result<Bound, Stop>
     }
 }
 
+/// Two bounds in brackets.
 fn choice(cursor: &mut Cursor<'_>) -> Result<Choice, Stop>
     ensures reads { Reads (spec.choice cursor.old.rest.now) result cursor.new.rest.now }
     ensures shrinks { length cursor.new.rest.now ≤ length cursor.old.rest.now }
@@ -52,10 +55,13 @@ fn choice(cursor: &mut Cursor<'_>) -> Result<Choice, Stop>
 /// What follows an addend of a right side.
 #[derive(Drop)]
 pub enum Next {
+    /// A sign and an addend: more may follow.
     More(Symbol, ExprTree),
+    /// A choice, which ends the right side.
     Last(Choice),
 }
 
+/// What follows an addend. Only behind a `+` does it show whether a choice comes.
 fn next_part(alloc: Global, cursor: &mut Cursor<'_>, depth: usize) -> Result<Next, Stop>
     requires { length cursor.old.rest.now < depth }
     ensures reads { Reads (map_out next_of (spec.part (paren depth) cursor.old.rest.now)) result cursor.new.rest.now }

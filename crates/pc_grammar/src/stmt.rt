@@ -13,6 +13,7 @@ use crate::tree::StmtTree;
 use sqlite_items::Items;
 use std::alloc::Global;
 
+/// An assignment.
 fn set_stmt(alloc: Global, cursor: &mut Cursor<'_>, depth: usize) -> Result<StmtTree, Stop>
     requires { length cursor.old.rest.now < depth }
     ensures reads { Reads (spec.set_stmt (paren depth) cursor.old.rest.now) result cursor.new.rest.now }
@@ -26,6 +27,7 @@ fn set_stmt(alloc: Global, cursor: &mut Cursor<'_>, depth: usize) -> Result<Stmt
     Ok(StmtTree::Set { name, right })
 }
 
+/// `assert` with a conjunction.
 fn assert_stmt(alloc: Global, cursor: &mut Cursor<'_>, depth: usize) -> Result<StmtTree, Stop>
     requires { length cursor.old.rest.now < depth }
     ensures reads { Reads (spec.assert_stmt (paren depth) cursor.old.rest.now) result cursor.new.rest.now }
@@ -41,6 +43,7 @@ fn assert_stmt(alloc: Global, cursor: &mut Cursor<'_>, depth: usize) -> Result<S
     })
 }
 
+/// `assume` with a conjunction.
 fn assume_stmt(alloc: Global, cursor: &mut Cursor<'_>, depth: usize) -> Result<StmtTree, Stop>
     requires { length cursor.old.rest.now < depth }
     ensures reads { Reads (spec.assume_stmt (paren depth) cursor.old.rest.now) result cursor.new.rest.now }
@@ -71,6 +74,7 @@ fn else_part(alloc: Global, cursor: &mut Cursor<'_>, depth: usize) -> Result<Ite
     }
 }
 
+/// `if` with its test and one block or two.
 #[cycle(stmt)]
 fn if_stmt(alloc: Global, cursor: &mut Cursor<'_>, depth: usize) -> Result<StmtTree, Stop>
     requires { length cursor.old.rest.now < depth }
@@ -90,6 +94,7 @@ fn if_stmt(alloc: Global, cursor: &mut Cursor<'_>, depth: usize) -> Result<StmtT
     })
 }
 
+/// `while` with its test, perhaps what is tried, and its block.
 #[cycle(stmt)]
 fn while_stmt(alloc: Global, cursor: &mut Cursor<'_>, depth: usize) -> Result<StmtTree, Stop>
     requires { length cursor.old.rest.now < depth }
@@ -109,6 +114,7 @@ fn while_stmt(alloc: Global, cursor: &mut Cursor<'_>, depth: usize) -> Result<St
     })
 }
 
+/// A statement: its first symbol tells which.
 #[cycle(stmt)]
 fn stmt(alloc: Global, cursor: &mut Cursor<'_>, depth: usize) -> Result<StmtTree, Stop>
     requires { length cursor.old.rest.now < depth }
@@ -144,6 +150,7 @@ pub fn stmts(alloc: Global, cursor: &mut Cursor<'_>, depth: usize) -> Result<Ite
     Ok(found)
 }
 
+/// Statements in braces.
 #[cycle(stmt)]
 fn block(alloc: Global, cursor: &mut Cursor<'_>, depth: usize) -> Result<Items<StmtTree>, Stop>
     requires { length cursor.old.rest.now < depth }

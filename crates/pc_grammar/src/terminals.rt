@@ -10,6 +10,7 @@ use pc_text::{Kind, NoMemory, Place, Token, place_from};
 use sqlite_items::Items;
 use std::alloc::Global;
 
+/// The terminal of a keyword's text.
 #[tactic(auto, unfolding(crate::specs::Symbols::keyword_of))]
 fn keyword_of(text: &[u8]) -> Terminal
     ensures { result ≡ spec.keyword_of text.now }
@@ -33,6 +34,7 @@ fn keyword_of(text: &[u8]) -> Terminal
     }
 }
 
+/// The terminal of a sign of one byte.
 #[tactic(auto, unfolding(crate::specs::Symbols::byte_sign))]
 fn byte_sign(byte: u8) -> Terminal
     ensures { result ≡ spec.byte_sign byte }
@@ -55,6 +57,7 @@ fn byte_sign(byte: u8) -> Terminal
     }
 }
 
+/// The terminal of a sign of two bytes.
 #[tactic(auto, unfolding(crate::specs::Symbols::pair_sign))]
 fn pair_sign(text: &[u8]) -> Terminal
     ensures { result ≡ spec.pair_sign text.now }
@@ -72,6 +75,7 @@ fn pair_sign(text: &[u8]) -> Terminal
     }
 }
 
+/// The terminal of a sign.
 fn sign_of(text: &[u8]) -> Terminal
     ensures { result ≡ spec.sign_of text.now }
 {
@@ -81,6 +85,7 @@ fn sign_of(text: &[u8]) -> Terminal
     }
 }
 
+/// The terminal of a token with this text.
 fn terminal_of(kind: Kind, text: &[u8]) -> Terminal
     ensures { result ≡ spec.terminal_of kind text.now }
 {
@@ -92,6 +97,7 @@ fn terminal_of(kind: Kind, text: &[u8]) -> Terminal
     }
 }
 
+/// The value of a number, and 0 of every other token.
 fn value_of(kind: Kind) -> i128
     ensures { result ≡ spec.value_of kind }
 {
@@ -118,6 +124,8 @@ fn symbol_at(src: &[u8], token: Token, place: Place) -> Symbol
 }
 
 /// The symbols of the tokens of a text, in order: one sweep over the text finds all their places.
+/// The tokens lie in order within the text, as those of [`pc_text::tokens`] do. `NoMemory` comes
+/// only for want of memory.
 pub fn symbols(alloc: Global, src: &[u8], tokens: &[Token]) -> Result<Items<Symbol>, NoMemory>
     requires small { length src.now < 2 ^ 32 - 1 }
     requires spans { AreSpans 0 (length src.now) tokens.now }

@@ -7,7 +7,11 @@ use std::alloc::Global;
 use std::process::Abort;
 use std::test::Fail;
 
-fn parsed(rt: &impl Abort, alloc: Global, src: &[u8]) -> Result<Result<ProgramTree, ParseFault>, Fail> {
+fn parsed(
+    rt: &impl Abort,
+    alloc: Global,
+    src: &[u8],
+) -> Result<Result<ProgramTree, ParseFault>, Fail> {
     assert!(rt; src.len() < 10_000_000);
     let found = tokens(alloc, src)?;
     let found = symbols(alloc, src, found.as_slice())?;
@@ -24,10 +28,25 @@ fn a_program_has_its_tree(rt: HostRuntime) -> Result<(), Fail> {
         assert (k > 0);
     }";
     let tree = parsed(&rt, rt.alloc(), src)??;
-    assert_eq!(rt; (tree.params.len(), tree.locals.len(), tree.body.len()), (2, 3, 4));
+    assert_eq!(rt;
+        (tree.params.len(), tree.locals.len(), tree.body.len()),
+        (2, 3, 4)
+    );
     match tree.body.get(0) {
         Some(StmtTree::Set { right, .. }) => {
-            assert!(rt; matches!(right.expr, ExprTree::Sub(_, _, Place { line: 3, column: 19 })));
+            assert!(rt;
+                matches!(
+                    right.expr,
+                    ExprTree::Sub(
+                        _,
+                        _,
+                        Place {
+                            line: 3,
+                            column: 19
+                        }
+                    )
+                )
+            );
             assert!(rt; right.choice.is_some());
         }
         _ => assert!(rt; false),
@@ -201,7 +220,14 @@ fn limits_are_kept_and_told_at_their_symbol(rt: HostRuntime) -> Result<(), Fail>
         (BLOCKS, 63, None),
         (BLOCKS, 64, deep(586)),
         (BLOCKS, 100_000, deep(586)),
-        (BARE, 63, Some(ParseFault::Syntax(Place { line: 1, column: 579 }))),
+        (
+            BARE,
+            63,
+            Some(ParseFault::Syntax(Place {
+                line: 1,
+                column: 579,
+            })),
+        ),
         (PARENTHESES, 64, None),
         (PARENTHESES, 65, long(81)),
         (PARENTHESES, 1_000_000, long(81)),

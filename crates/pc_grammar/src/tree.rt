@@ -4,11 +4,15 @@ use crate::symbol::Symbol;
 use pc_text::Place;
 use sqlite_items::{Boxed, Items};
 
-/// An expression. The place is that of the operator.
+/// An expression. Sums and products are associated to the left, and parentheses leave no trace but
+/// the shape of the tree. The place is that of the operator.
 #[derive(Drop)]
 pub enum ExprTree {
+    /// A number, which is never below 0.
     Num(i128),
+    /// A name, declared or not.
     Name(Symbol),
+    /// A negation, with the place of its `-`.
     Neg(Boxed<ExprTree>, Place),
     Add(Boxed<ExprTree>, Boxed<ExprTree>, Place),
     Sub(Boxed<ExprTree>, Boxed<ExprTree>, Place),
@@ -35,20 +39,24 @@ pub struct CompareTree {
     pub place: Place,
 }
 
-/// The test of an `if` or a `while`: `*`, or a conjunction of one to eight comparisons.
+/// The test of an `if` or a `while`.
 #[derive(Drop)]
 pub enum TestTree {
+    /// `*`, which may hold or not.
     Any,
+    /// A conjunction of one to [`COMPARISONS`](crate::COMPARISONS) comparisons, in order.
     All(Items<CompareTree>),
 }
 
 /// An end of the interval of a choice.
 #[derive(Clone, Copy, Debug, PartialEq, Eq)]
 pub enum Bound {
+    /// A number, with its sign.
     At(i128),
 }
 
-/// A choice of an integer from `lo` to `hi`. The place is that of `[`.
+/// A choice of an integer from `lo` to `hi`, both included; whether there is one is not tested
+/// here. The place is that of `[`.
 #[derive(Clone, Copy, Debug, PartialEq, Eq)]
 pub struct Choice {
     pub lo: Bound,
@@ -56,7 +64,8 @@ pub struct Choice {
     pub place: Place,
 }
 
-/// The right side of an assignment. A choice alone has the expression 0.
+/// The right side of an assignment: an expression, and perhaps a choice that is added to it. A
+/// choice alone has the expression 0.
 #[derive(Drop)]
 pub struct RightTree {
     pub expr: ExprTree,
@@ -70,12 +79,14 @@ pub enum StmtTree {
         name: Symbol,
         right: RightTree,
     },
+    /// A missing `else` is an empty second block.
     If {
         place: Place,
         test: TestTree,
         then_part: Items<StmtTree>,
         else_part: Items<StmtTree>,
     },
+    /// Where `try` is missing, no comparisons are tried.
     While {
         place: Place,
         test: TestTree,
@@ -92,7 +103,8 @@ pub enum StmtTree {
     },
 }
 
-/// A program. The place is that of `entry`.
+/// A program. The place is that of `entry`; parameters and locals are in order of declaration, those
+/// of all `var` lines in one list.
 #[derive(Drop)]
 pub struct ProgramTree {
     pub place: Place,

@@ -1,24 +1,60 @@
--- Multipliers that show a row from rows (Farkas's lemma in its easy direction, with the integer negation).
-use Rattle.std.specs.Prelude.{◌≡◌, true, ℤ, pos, negsuc, ◌≤ℤ◌, List, [], ◌∷◌}
-use Rattle.std.specs.List.{AllByRecursion, list_all}
-use Rattle.pc_rows.specs.Linear.{Linear, sum_of, scaled_by, negation, is_zero}
+-- Whether premises show a goal: the question, a proof that they do, and a point at which they do not.
+use Rattle.std.specs.Prelude.{◌≡◌, ◌≢◌, ℕ, ◌<◌, ◌≤◌, ℤ, pos, ◌≤ℤ◌, List, [], ◌∷◌, length}
+use Rattle.std.specs.List.{AllByRecursion}
+use Rattle.pc_rows.specs.declared.proof.Part.{Part}
+use Rattle.pc_rows.specs.declared.row.TheConstants.{VARIABLES}
+use Rattle.pc_rows.specs.declared.system.TheConstants.{PREMISES}
+use Rattle.pc_rows.specs.Linear.{Linear, IsRow, InRange, AllInRange}
 
-abbrev pub nothing_row : Linear
-nothing_row = record { constant = pos 0; coefficients = [] }
+-- do the premises show the goal
+pub record System : Type 0 where
+  pub premises : List Linear
+  pub goal : Linear
 
--- the sum of the rows, each times its multiplier
-abbrev pub combination : List ℤ → List Linear → Linear
-combination [] rows = nothing_row
-combination (m ∷ ms) [] = nothing_row
-combination (m ∷ ms) (r ∷ rows) = sum_of (scaled_by m r) (combination ms rows)
+-- a multiplier of the negated goal, and multipliers of premises, which are named by their index
+pub record Proof : Type 0 where
+  pub goal : ℤ
+  pub parts : List Part
 
--- the rows times ms, plus the negation of r times k
-abbrev pub total : List Linear → Linear → List ℤ → ℤ → Linear
-total rows r ms k = sum_of (scaled_by k (negation r)) (combination ms rows)
+-- a rational point: a numerator for each variable in order, over one denominator
+pub record Point : Type 0 where
+  pub numerators : List ℤ
+  pub denominator : ℤ
 
--- no multiplier is negative, and the sum has no variable and a negative constant
-pub record Shows (rows : List Linear) (r : Linear) (ms : List ℤ) (k : ℤ) : Type 0 where
-  pub multipliers : AllByRecursion (λ m. pos 0 ≤ℤ m) ms
-  pub goal : pos 0 ≤ℤ k
-  pub left : list_all is_zero (total rows r ms k).coefficients ≡ true
-  pub below : (total rows r ms k).constant ≤ℤ negsuc 0
+-- the index is above that of each part
+abbrev pub IsAbove : ℕ → List Part → Type 0
+IsAbove i ps = AllByRecursion (λ p. p.index < i) ps
+
+-- each index is above those before it
+abbrev pub IsRising : List Part → Type 0
+IsRising [] = Unit {0}
+IsRising (p ∷ ps) = AllByRecursion (λ q. p.index < q.index) ps × IsRising ps
+
+-- a part says something: it names a premise that a system may have, with a multiplier other than 0
+pub record IsPart (p : Part) : Type 0 where
+  pub index : p.index < PREMISES
+  pub in_range : InRange p.multiplier
+  pub not_zero : p.multiplier ≢ pos 0
+
+-- what every list of parts of the code keeps
+pub record IsParts (ps : List Part) : Type 0 where
+  pub rising : IsRising ps
+  pub each : AllByRecursion IsPart ps
+
+-- what every proof of the code keeps
+pub record IsProof (p : Proof) : Type 0 where
+  pub goal : InRange p.goal
+  pub parts : IsParts p.parts
+
+-- what every system of the code keeps
+pub record IsSystem (s : System) : Type 0 where
+  pub most : length s.premises ≤ PREMISES
+  pub each : AllByRecursion IsRow s.premises
+  pub goal : IsRow s.goal
+
+-- what every point of the code keeps
+pub record IsPoint (p : Point) : Type 0 where
+  pub wide : length p.numerators ≡ VARIABLES
+  pub in_range : AllInRange p.numerators
+  pub denominator : InRange p.denominator
+  pub positive : pos 1 ≤ℤ p.denominator

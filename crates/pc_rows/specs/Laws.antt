@@ -4,7 +4,9 @@ use Rattle.pc_rows.specs.Linear.{Linear, State, value, Meets, MeetsAll, sum_of, 
 use Rattle.pc_rows.specs.Bounds.{IsWithin, Within, AllWithin}
 use Rattle.pc_rows.specs.Substitution.{substituted, SubstituteFits, AllSuccessorsMeet}
 use Rattle.pc_rows.specs.Joins.{joined, is_covered, IsCovered}
-use Rattle.pc_rows.specs.Evidence.{Shows}
+use Rattle.pc_rows.specs.Evidence.{Proof, Point}
+use Rattle.pc_rows.specs.Shows.{Shows}
+use Rattle.pc_rows.specs.Points.{Refutes}
 
 -- the value of variable v
 abbrev pub at : State → ℕ → ℤ
@@ -96,6 +98,10 @@ SmallSubstitutionFits = (bound : ℕ) (r form : Linear) (x : ℕ) (lo hi : ℤ) 
 abbrev pub RangeIsMeant : Type 0
 RangeIsMeant = (r : Linear) → (is_in_range r ≡ true) ↔ IsInRange r
 
--- a row that multipliers show is met where the rows are
+-- a goal that a proof shows is met where the premises are
 abbrev pub ShownIsMet : Type 0
-ShownIsMet = (rows : List Linear) (r : Linear) (ms : List ℤ) (k : ℤ) (s : State) → Shows rows r ms k → MeetsAll s rows → Meets s r
+ShownIsMet = (premises : List Linear) (goal : Linear) (p : Proof) (s : State) → Shows premises goal p → MeetsAll s premises → Meets s goal
+
+-- where a point refutes a system, no proof shows its goal
+abbrev pub RefutedIsNotShown : Type 0
+RefutedIsNotShown = (premises : List Linear) (goal : Linear) (p : Proof) (q : Point) → Shows premises goal p → Refutes premises goal q → ⊥

@@ -1,7 +1,7 @@
 //! What all that stands on rows cites of them. Each law is the contract of a function that does
 //! nothing.
 
-ghost use Rattle.pc_rows.specs.Laws.{ValueOfConstant, ValueOfCoefficient, ValueAtZero, ValueOfSum, ValueOfDifference, ValueOfMultiple, ValueOfNegation, NegationIsExact, ValueOfAbove, AboveIsExact, ValueOfFirst, ZeroFromEntry, ValueAtEntry, ValueOfNumber, NumberIsMeant, SubstitutionIsExact, CoveringIsMeant, CoveredIsMet, JoinIsBoth, JoinIsWithin, SmallSubstitutionFits, RangeIsMeant, ShownIsMet};
+ghost use Rattle.pc_rows.specs.Laws.{ValueOfConstant, ValueOfCoefficient, ValueAtZero, ValueOfSum, ValueOfDifference, ValueOfMultiple, ValueOfNegation, NegationIsExact, ValueOfAbove, AboveIsExact, ValueOfFirst, ZeroFromEntry, ValueAtEntry, ValueOfNumber, NumberIsMeant, SubstitutionIsExact, CoveringIsMeant, CoveredIsMet, JoinIsBoth, JoinIsWithin, SmallSubstitutionFits, RangeIsMeant, ShownIsMet, RefutedIsNotShown};
 
 /// The values of rows at a state.
 pub fn row_values()
@@ -54,9 +54,14 @@ pub fn bounds_are_kept()
     ensures substitution { SmallSubstitutionFits }
 {}
 
-/// A row that multipliers show is met where the rows are.
+/// A goal that a proof shows is met where the premises are.
 pub fn shown_is_met()
     ensures { ShownIsMet }
+{}
+
+/// Where a point refutes a system, no proof shows its goal.
+pub fn refuted_is_not_shown()
+    ensures { RefutedIsNotShown }
 {}
 
 /// The tests that definitions compute with say what is meant.

@@ -30,6 +30,7 @@ impl Model for Number {
 }
 
 impl Number {
+    /// The number `n`.
     pub fn new(n: i128) -> Number
         requires { InRange n }
         ensures { result ≡ n }
@@ -37,6 +38,7 @@ impl Number {
         Number { n }
     }
 
+    /// The number as a machine integer.
     pub fn get(self) -> i128
         ensures value { result ≡ self }
         ensures range { InRange self }
@@ -44,7 +46,7 @@ impl Number {
         self.n
     }
 
-    /// The sum.
+    /// The sum. `Past` exactly where it is not in range.
     pub fn plus(self, other: Number) -> Result<Number, Past>
         ensures { OkIff result (InRange (self +ℤ other)) (self +ℤ other) }
     {
@@ -54,7 +56,7 @@ impl Number {
         }
     }
 
-    /// The difference.
+    /// The difference. `Past` exactly where it is not in range.
     pub fn minus(self, other: Number) -> Result<Number, Past>
         ensures { OkIff result (InRange (self -ℤ other)) (self -ℤ other) }
     {
@@ -75,7 +77,7 @@ impl Number {
         }
     }
 
-    /// The product.
+    /// The product. `Past` exactly where it is not in range.
     pub fn times(self, other: Number) -> Result<Number, Past>
         ensures { OkIff result (InRange (self *ℤ other)) (self *ℤ other) }
     {
@@ -85,7 +87,15 @@ impl Number {
         }
     }
 
-    /// The opposite.
+    /// The number plus the product `a * b`. `Past` exactly where the product or the sum is not in
+    /// range.
+    pub fn plus_product(self, a: Number, b: Number) -> Result<Number, Past>
+        ensures { OkIff result (InRange (a *ℤ b) × InRange (self +ℤ a *ℤ b)) (self +ℤ a *ℤ b) }
+    {
+        self.plus(a.times(b)?)
+    }
+
+    /// The opposite, which is in range since the range is symmetric.
     pub fn negated(self) -> Number
         ensures value { result ≡ neg_ℤ self }
         ensures range { InRange result }
@@ -100,18 +110,21 @@ impl Number {
         if other.n < self.n { other } else { self }
     }
 
+    /// Whether it is 0.
     pub fn is_zero(self) -> bool
         ensures { result ≡ is_zero self }
     {
         self.n == 0
     }
 
+    /// Whether it is 0 or more.
     pub fn is_at_least_zero(self) -> bool
         ensures { result ≡ int_le (pos 0) self }
     {
         0 <= self.n
     }
 
+    /// Whether it is `other` or less.
     pub fn is_at_most(self, other: Number) -> bool
         ensures { result ≡ int_le self other }
     {

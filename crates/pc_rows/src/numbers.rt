@@ -1,11 +1,13 @@
 //! Sums, multiples and opposites of numbers by place.
 
-ghost use Rattle.std.specs.Prelude.{◌≡◌, OkIff};
+ghost use Rattle.std.specs.Prelude.{◌≡◌, ◌+ℤ◌, OkIff};
+ghost use Rattle.pc_rows.specs.Points.{SumsFit};
 ghost use Rattle.std.specs.List.{list_all};
-ghost use Rattle.pc_rows.specs.Linear.{AllInRange, add_lists, scale_list, negate_list, zero_from, is_zero};
+ghost use Rattle.pc_rows.specs.Linear.{AllInRange, add_lists, scale_list, negate_list, dot, zero_from, is_zero};
 
 use crate::number::{Number, Past};
 
+/// The sums by place. `Past` exactly where one of them is not in range.
 pub fn sums<const N: usize>(a: &[Number; N], b: &[Number; N]) -> Result<[Number; N], Past>
     ensures { OkIff result (AllInRange (add_lists a.now b.now)) (add_lists a.now b.now) }
 {
@@ -16,6 +18,7 @@ pub fn sums<const N: usize>(a: &[Number; N], b: &[Number; N]) -> Result<[Number;
     Ok(all)
 }
 
+/// Each number times `k`. `Past` exactly where one of the products is not in range.
 pub fn products<const N: usize>(k: Number, a: &[Number; N]) -> Result<[Number; N], Past>
     ensures { OkIff result (AllInRange (scale_list k a.now)) (scale_list k a.now) }
 {
@@ -26,6 +29,23 @@ pub fn products<const N: usize>(k: Number, a: &[Number; N]) -> Result<[Number; N
     Ok(all)
 }
 
+/// `start` plus the sum of the products by place, from the left. `Past` exactly where a product or
+/// a sum so far is not in range.
+pub fn sum_of_products<const N: usize>(
+    start: Number,
+    a: &[Number; N],
+    b: &[Number; N],
+) -> Result<Number, Past>
+    ensures { OkIff result (SumsFit start a.now b.now) (start +ℤ dot a.now b.now) }
+{
+    let mut sum = start;
+    for v in 0..N {
+        sum = sum.plus_product(a[v], b[v])?;
+    }
+    Ok(sum)
+}
+
+/// The opposite of each number.
 pub fn opposites<const N: usize>(a: &[Number; N]) -> [Number; N]
     ensures value { result ≡ negate_list a.now }
     ensures range { AllInRange (negate_list a.now) }
@@ -48,6 +68,7 @@ pub fn first<const N: usize>(a: &[Number; N], count: usize) -> [Number; N]
     all
 }
 
+/// Whether each number is 0.
 pub fn are_zero(a: &[Number]) -> bool
     ensures { result ≡ list_all is_zero a.now }
 {

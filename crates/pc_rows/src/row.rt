@@ -3,11 +3,12 @@
 ghost use Rattle.std.specs.Prelude.{◌≡◌, ◌<◌, ◌*ℤ◌, neg_ℤ, ◌+ℤ◌, OkIff, pos, replicate};
 ghost use Rattle.std.specs.Ordering.{int_eq};
 ghost use Rattle.std.specs.Cmp.Lexicographic.{pointwise};
-ghost use Rattle.pc_rows.specs.Linear.{InRange, IsInRange, IsRow, coefficient, of_constant, with_coefficient, sum_of, difference_of, scaled_by, opposite_of, above_of, first_of, is_number, negation};
+ghost use Rattle.pc_rows.specs.Points.{SumsFit};
+ghost use Rattle.pc_rows.specs.Linear.{InRange, dot, IsInRange, IsRow, coefficient, of_constant, with_coefficient, sum_of, difference_of, scaled_by, opposite_of, above_of, first_of, is_number, negation};
 ghost use Rattle.pc_rows.specs.Joins.{is_always, is_at_most};
 
 use crate::number::{Number, Past};
-use crate::numbers::{are_zero, first, opposites, products, sums};
+use crate::numbers::{are_zero, first, opposites, products, sum_of_products, sums};
 use std::alloc::Global;
 use std::marker::Model;
 
@@ -61,6 +62,7 @@ impl Row {
         }
     }
 
+    /// The constant, in range.
     pub fn constant(&self) -> i128
         ensures value { result ≡ self.now.constant }
         ensures range { InRange result }
@@ -69,6 +71,7 @@ impl Row {
         self.constant.get()
     }
 
+    /// The coefficient at variable `v`, in range.
     pub fn coefficient(&self, v: u32) -> i128
         requires { v < VARIABLES }
         ensures value { result ≡ coefficient self.now v }
@@ -78,6 +81,7 @@ impl Row {
         self.coefficients[v as usize].get()
     }
 
+    /// The same row. It needs no memory.
     pub fn copy(&self) -> Row
         ensures value { result ≡ self.now }
         ensures row { IsRow self.now }
@@ -112,13 +116,27 @@ impl Row {
         requires { InRange k }
         ensures { OkIff result (IsInRange (scaled_by k self.now)) (scaled_by k self.now) }
     {
-        let k = Number::new(k);
+        self.times(Number::new(k))
+    }
+
+    /// `scaled` by a number that is known to be in range.
+    pub fn times(&self, k: Number) -> Result<Row, Past>
+        ensures { OkIff result (IsInRange (scaled_by k self.now)) (scaled_by k self.now) }
+    {
         let constant = k.times(self.constant)?;
         let coefficients = products(k, &self.coefficients)?;
         Ok(Row {
             constant,
             coefficients,
         })
+    }
+
+    /// The row plus `k` times `other`. `Past` exactly where a number of the multiple or of the sum
+    /// is not in range.
+    pub fn plus_times(&self, k: Number, other: &Row) -> Result<Row, Past>
+        ensures { OkIff result (IsInRange (scaled_by k other.now) × IsInRange (sum_of self.now (scaled_by k other.now))) (sum_of self.now (scaled_by k other.now)) }
+    {
+        self.sum(&other.times(k)?)
     }
 
     /// The row `-r - 1`, which is met exactly where the row `r` is not. `Past` exactly where one
@@ -163,6 +181,19 @@ impl Row {
         ensures { result ≡ is_number self.now }
     {
         are_zero(&self.coefficients)
+    }
+
+    /// The constant times `denominator`, plus the sum of the coefficients times the numerators.
+    /// `Past` exactly where a product or a sum from the left is not in range.
+    pub(crate) fn value_over(
+        &self,
+        numerators: &[Number; VARIABLES],
+        denominator: Number,
+    ) -> Result<Number, Past>
+        ensures { OkIff result (InRange (self.now.constant *ℤ denominator) × SumsFit (self.now.constant *ℤ denominator) self.now.coefficients numerators.now) (self.now.constant *ℤ denominator +ℤ dot self.now.coefficients numerators.now) }
+    {
+        let start = self.constant.times(denominator)?;
+        sum_of_products(start, &self.coefficients, numerators)
     }
 
     /// The opposite of each number: since the range is symmetric, all are in range.

@@ -17,10 +17,11 @@ pub const ROWS: usize = 32;
 pub enum RowsFault {
     /// It has `ROWS` rows.
     Full,
+    /// There is no memory for the row.
     NoMemory,
 }
 
-/// There is no memory for a copy.
+/// There is no memory for what is to be kept.
 #[derive(Clone, Copy, Debug, PartialEq, Eq)]
 pub struct NoMemory;
 
@@ -54,6 +55,7 @@ impl Rows {
         }
     }
 
+    /// How many rows there are.
     pub fn len(&self) -> usize
         ensures value { result ≡ length self.now }
         ensures most { length self.now ≤ ROWS }
@@ -62,6 +64,7 @@ impl Rows {
         self.rows.len()
     }
 
+    /// Row `i`, counted from 0.
     pub fn at(&self, i: usize) -> &Row
         requires { i < length self.now }
         ensures { slice_get self.now i ≡ Some result.now }

@@ -64,3 +64,39 @@ fn rows_go_back_over_assignments(rt: HostRuntime) -> Result<(), Fail> {
     assert!(rt; substitute(&once, 0, &form, 0, 0).is_err());
     Ok(())
 }
+
+#[test]
+fn premises_show_a_goal(rt: HostRuntime) -> Result<(), Fail> {
+    let alloc = rt.alloc();
+
+    // x - 3 >= 0 shows x - 1 >= 0: -(x - 1) - 1 and x - 3 are together -3
+    let mut system = System::new(alloc, Row::of_constant(alloc, -1).with(0, 1));
+    system.push(Row::of_constant(alloc, -3).with(0, 1))?;
+    let mut parts = Parts::new(alloc);
+    let part = Part {
+        index: 0,
+        multiplier: Number::new(1),
+    };
+    parts.push(part)?;
+    let proof = Proof::new(Number::new(1), parts.copy()?);
+    let sum = total(&system, &proof)?;
+    assert!(rt; sum.is_number());
+    assert_eq!(rt; sum.constant(), -3);
+    assert_eq!(rt; proof.copy()?.parts().len(), 1);
+    Ok(())
+}
+
+#[test]
+fn a_row_has_a_sign_at_a_point(rt: HostRuntime) -> Result<(), Fail> {
+    let less = Row::of_constant(rt.alloc(), -1).with(0, 1);
+
+    // x - 1 is at least 0 at 2/2, and not at 1/2
+    let half = Point::origin()
+        .over_multiple(Number::new(2))?
+        .with(0, Number::new(1));
+    let one = half.with(0, Number::new(2));
+    assert_eq!(rt; sign_at(&less, &half), Some(false));
+    assert_eq!(rt; sign_at(&less, &one), Some(true));
+    assert_eq!(rt; sign_at(&less.scaled(i128::MAX)?, &one), None);
+    Ok(())
+}

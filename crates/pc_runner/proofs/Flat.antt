@@ -1,5 +1,5 @@
 -- Stacks of slices, as lists of statements.
-use Rattle.std.proofs.Common.{◌≡◌, ℤ, List, [], ◌∷◌, ◌++◌, append_assoc, append-nil, ap, ◌∙◌, sym, refl, subst, length, ◌<◌, ◌≤◌, ◌-◌, arith, get_or, drop, drop-cons, take, length-drop, Result, Ok, Err}
+use Rattle.std.proofs.Common.{◌≡◌, ℤ, List, [], ◌∷◌, ◌++◌, append_assoc, append-nil, ap, ◌∙◌, sym, refl, length, ◌<◌, ◌≤◌, ◌-◌, arith, get_or, drop, drop-cons, take, Result}
 use Rattle.std.proofs.lemmas.List.{take_rest}
 use Rattle.std.specs.Borrow.{Bor}
 use Rattle.pc_text.specs.declared.place.Place.{Place}

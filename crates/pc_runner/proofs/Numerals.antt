@@ -1,9 +1,8 @@
 -- A word that is a numeral is read whole.
-use Rattle.std.proofs.Common.{◌≡◌, ◌∙◌, refl, ap, sym, subst, ℕ, zero, suc, ◌+◌, ◌<◌, ◌≤◌, nat_eq, nat_le, nat_lt, Bool, true, false, cond, List, [], ◌∷◌, ◌++◌, Option, Some, None, length, take, drop, arith, ℤ}
-use Rattle.std.specs.Prelude.{◌&&◌, if◌then◌else◌, unsigned_abs, MatchOption}
+use Rattle.std.proofs.Common.{◌≡◌, ◌∙◌, refl, ap, sym, ℕ, suc, ◌+◌, nat_eq, nat_le, nat_lt, Bool, true, false, [], ◌∷◌, Option, Some, None, length, arith, ℤ}
+use Rattle.std.specs.Prelude.{◌&&◌, if◌then◌else◌, unsigned_abs}
 use Rattle.std.specs.List.{list_all}
 use Rattle.std.proofs.Math.Seq.{take-length}
-use Rattle.std.proofs.lemmas.Bool.{ltb-true, ltb-false}
 use Rattle.std.proofs.lemmas.Bool.Decides.{nat_tests}
 use Rattle.pc_text.specs.declared.token.TheConstants.{LARGEST}
 use Rattle.pc_text.specs.Bytes.{Bytes}
@@ -48,14 +47,14 @@ read_is : (w : Bytes) → is_numeral w ≡ true → read_at w 0 ≡ in_range (in
 read_is [] h = absurd (cc)
 read_is (b ∷ w) h =
     ap (λ n. read_by n 0 (b ∷ w)) (numeral_len_is (b ∷ w) h) ∙ ap (λ z. in_range (integer_of z) (0 + suc (length w))) (take-length (b ∷ w))
-        ∙ ap (in_range (integer_of (b ∷ w))) (let e : 0 + suc (length w) ≡ suc (length w) = omega arith in e)
+    ∙ ap (in_range (integer_of (b ∷ w))) (let e : 0 + suc (length w) ≡ suc (length w) = omega arith in e)
 
 some_by : (a : ℕ) (z : ℤ) (end : ℕ) (t : Bool) → nat_lt LARGEST a ≡ t → (x : ℤ × ℕ) → (if t then None else Some (z, end)) ≡ Some x → (x.0 ≡ z) × (nat_le a LARGEST ≡ true)
 some_by a z end true e x h = cc
 some_by a z end false e x h = (ap (λ (o : ℤ × ℕ). o.0) (same (z, end) x h), grind (arith, nat_tests))
   where
-  same : (p q : ℤ × ℕ) → ◌≡◌ {A = Option (ℤ × ℕ)} (Some p) (Some q) → q ≡ p
-  same p q e = cc
+    same : (p q : ℤ × ℕ) → ◌≡◌ {A = Option (ℤ × ℕ)} (Some p) (Some q) → q ≡ p
+    same p q e = cc
 
 none_by : (a : ℕ) (z : ℤ) (end : ℕ) (t : Bool) → nat_lt LARGEST a ≡ t → ◌≡◌ {A = Option (ℤ × ℕ)} (if t then None else Some (z, end)) None → nat_le a LARGEST ≡ false
 none_by a z end true e h = grind (arith, nat_tests)

@@ -1,7 +1,5 @@
 -- The verdict on a run says what is so of the run, and no other verdict does.
-use Rattle.std.proofs.Common.{◌≡◌, ◌∙◌, refl, ap, sym, subst, ℕ, zero, suc, ◌+◌, ◌<◌, ◌≤◌, ℤ, pos, List, [], ◌∷◌, Option, Some, None, Result, Ok, Err, length, get_or, take, take_all, inl, inr, arith}
-use Rattle.std.specs.Prelude.{◌⊎◌}
-use Rattle.std.proofs.Math.Seq.{take-length}
+use Rattle.std.proofs.Common.{◌≡◌, ◌∙◌, refl, ap, sym, subst, ℕ, zero, suc, ◌+◌, ◌≤◌, ℤ, pos, List, [], ◌∷◌, Option, Some, None, Ok, length, get_or, take, arith}
 use Rattle.pc_text.specs.declared.place.Place.{Place}
 use Rattle.pc_syntax.specs.declared.tree.Stmt.{Stmt}
 use Rattle.pc_syntax.specs.Values.{State}
@@ -119,16 +117,16 @@ module _ (k : List Stmt) (s : State) (c : ℤ) (cs : List ℤ) (more : List Stmt
   ends_only end v first rest n (suc b) next within going in_range ends =
       let two : n ≡ suc (b + 1) = omega arith in
       on_going (concluded (taken k s c) more ≡ v n) (step k s c) (going_before (take b cs) (step k s c) going) (λ k' s' goes.
-          let fits : first_past (computed k s c) ≡ None = in_range 0 (omega arith) in
-          let at : EndsAt (Going k' s') cs (b + 1) end = record {
-            before = b;
-            next = refl;
-            within = omega arith;
-            going = subst IsGoing (ap (λ o. run o (take b cs)) goes) going;
-            in_range = in_range_less k k' s s' c cs goes (b + 1) (λ m l. in_range m (omega arith));
-            ends = after_less k k' s s' c cs goes (b + 1) ∙ ap (after (Going k s) (c ∷ cs)) (sym two) ∙ ends;
-          } in
-          ap (λ r. concluded r more) (taken_ok k s c (Going k' s') fits goes) ∙ rest k' s' (b + 1) at ∙ ap v (let e : (b + 1) + 1 ≡ n = omega arith in e))
+      let fits : first_past (computed k s c) ≡ None = in_range 0 (omega arith) in
+      let at : EndsAt (Going k' s') cs (b + 1) end = record {
+        before = b;
+        next = refl;
+        within = omega arith;
+        going = subst IsGoing (ap (λ o. run o (take b cs)) goes) going;
+        in_range = in_range_less k k' s s' c cs goes (b + 1) (λ m l. in_range m (omega arith));
+        ends = after_less k k' s s' c cs goes (b + 1) ∙ ap (after (Going k s) (c ∷ cs)) (sym two) ∙ ends;
+      } in
+      ap (λ r. concluded r more) (taken_ok k s c (Going k' s') fits goes) ∙ rest k' s' (b + 1) at ∙ ap v (let e : (b + 1) + 1 ≡ n = omega arith in e))
 
   past_only : (p : Place) → ((k' : List Stmt) (s' : State) (m : ℕ) → PastAt (Going k' s') cs m p → more k' s' ≡ verdict.Past (m + 1) p)
       → (n before : ℕ) → n ≡ before + 1 → n ≤ suc (length cs) → IsGoing (after (Going k s) (c ∷ cs) before) → InRangeFor (Going k s) (c ∷ cs) before
@@ -137,24 +135,24 @@ module _ (k : List Stmt) (s : State) (c : ℤ) (cs : List ℤ) (more : List Stmt
       ap (λ o. concluded (unless o (step k s c)) more) past ∙ ap (λ (i : ℕ). verdict.Past i p) (let e : 1 ≡ n = omega arith in e)
   past_only p rest n (suc b) next within going in_range past =
       on_going (concluded (taken k s c) more ≡ verdict.Past n p) (step k s c) (going_before (take b cs) (step k s c) going) (λ k' s' goes.
-          let fits : first_past (computed k s c) ≡ None = in_range 0 (omega arith) in
-          let at : PastAt (Going k' s') cs (b + 1) p = record {
-            before = b;
-            next = refl;
-            within = omega arith;
-            going = subst IsGoing (ap (λ o. run o (take b cs)) goes) going;
-            in_range = in_range_less k k' s s' c cs goes b in_range;
-            past = ap (λ o. first_past (computed_by o (get_or cs b (pos 0)))) (after_less k k' s s' c cs goes b) ∙ past;
-          } in
-          ap (λ r. concluded r more) (taken_ok k s c (Going k' s') fits goes) ∙ rest k' s' (b + 1) at ∙ ap (λ (i : ℕ). verdict.Past i p) (let e : (b + 1) + 1 ≡ n = omega arith in e))
+      let fits : first_past (computed k s c) ≡ None = in_range 0 (omega arith) in
+      let at : PastAt (Going k' s') cs (b + 1) p = record {
+        before = b;
+        next = refl;
+        within = omega arith;
+        going = subst IsGoing (ap (λ o. run o (take b cs)) goes) going;
+        in_range = in_range_less k k' s s' c cs goes b in_range;
+        past = ap (λ o. first_past (computed_by o (get_or cs b (pos 0)))) (after_less k k' s s' c cs goes b) ∙ past;
+      } in
+      ap (λ r. concluded r more) (taken_ok k s c (Going k' s') fits goes) ∙ rest k' s' (b + 1) at ∙ ap (λ (i : ℕ). verdict.Past i p) (let e : (b + 1) + 1 ≡ n = omega arith in e))
 
   goes_only : (t : State) → ((k' : List Stmt) (s' : State) → StillGoes (Going k' s') cs t → more k' s' ≡ verdict.Going t) → StillGoes (Going k s) (c ∷ cs) t
       → concluded (taken k s c) more ≡ verdict.Going t
   goes_only t rest h =
       on_going (concluded (taken k s c) more ≡ verdict.Going t) (step k s c) (going_before cs (step k s c) (subst IsGoing (sym h.goes) tt)) (λ k' s' goes.
-          let fits : first_past (computed k s c) ≡ None = h.in_range 0 (omega arith) in
-          let still : StillGoes (Going k' s') cs t = record { left = h.left; goes = ap (λ o. run o cs) (sym goes) ∙ h.goes; in_range = in_range_less k k' s s' c cs goes (length cs) h.in_range } in
-          ap (λ r. concluded r more) (taken_ok k s c (Going k' s') fits goes) ∙ rest k' s' still)
+      let fits : first_past (computed k s c) ≡ None = h.in_range 0 (omega arith) in
+      let still : StillGoes (Going k' s') cs t = record { left = h.left; goes = ap (λ o. run o cs) (sym goes) ∙ h.goes; in_range = in_range_less k k' s s' c cs goes (length cs) h.in_range } in
+      ap (λ r. concluded r more) (taken_ok k s c (Going k' s') fits goes) ∙ rest k' s' still)
 
 same_state : (k k' : List Stmt) (s t : State) → Going k s ≡ Going k' t → s ≡ t
 same_state k k' s t e = cc

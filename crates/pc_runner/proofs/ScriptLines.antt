@@ -1,8 +1,7 @@
 -- The lines of a script, one after another.
-use Rattle.std.proofs.Common.{◌≡◌, ◌∙◌, refl, ap, sym, subst, ℕ, zero, suc, ◌+◌, ◌-◌, ◌<◌, ◌≤◌, nat_lt, Bool, true, false, not, cond, ℤ, List, [], ◌∷◌, ◌++◌, length, replicate, Result, Ok, Err, arith, length-append, get_or}
+use Rattle.std.proofs.Common.{◌≡◌, ◌∙◌, refl, ap, sym, subst, ℕ, zero, suc, ◌+◌, ◌<◌, ◌≤◌, nat_lt, Bool, true, false, not, ℤ, List, [], ◌∷◌, ◌++◌, length, replicate, Result, Ok, Err, arith, length-append}
 use Rattle.std.proofs.lemmas.List.{length-replicate}
-use Rattle.std.specs.Prelude.{◌&&◌, if◌then◌else◌, unsigned_abs}
-use Rattle.std.specs.List.{All, list_all, count_by, slice_split}
+use Rattle.std.specs.List.{All, list_all, count_by}
 use Rattle.std.proofs.lemmas.Bool.{lt-ltb, le-ltb}
 use Rattle.std.proofs.lemmas.List.Splits.{slice_split_at, slice_split_none, length-slice_split}
 use Rattle.pc_text.specs.Bytes.{Bytes}
@@ -105,13 +104,13 @@ script_entry_fault params b first rest e h f =
 pub script_choices_fault : (params : ℕ) (b first rest : Bytes) (entry : List ℤ) (e : ScriptFault) → IsLine b first true rest → entry_of params first ≡ Ok entry → choices_of 2 [] (lines rest) ≡ Err e → script_of params b ≡ Err e
 script_choices_fault params b first rest entry e h f g =
     script_first params b first rest h ∙ ap (λ r. on_ok r (λ entry. on_ok (choices_of 2 [] (lines rest)) (λ choices. Ok (record { entry = entry; choices = choices })))) f
-        ∙ ap (λ r. on_ok r (λ choices. Ok (record { entry = entry; choices = choices }))) g
+    ∙ ap (λ r. on_ok r (λ choices. Ok (record { entry = entry; choices = choices }))) g
 
 pub script_is : (params : ℕ) (b first rest : Bytes) (entry choices : List ℤ) → IsLine b first true rest → entry_of params first ≡ Ok entry → choices_of 2 [] (lines rest) ≡ Ok choices
     → script_of params b ≡ Ok (record { entry = entry; choices = choices })
 script_is params b first rest entry choices h f g =
     script_first params b first rest h ∙ ap (λ r. on_ok r (λ entry. on_ok (choices_of 2 [] (lines rest)) (λ choices. Ok (record { entry = entry; choices = choices })))) f
-        ∙ ap (λ r. on_ok r (λ choices. Ok (record { entry = entry; choices = choices }))) g
+    ∙ ap (λ r. on_ok r (λ choices. Ok (record { entry = entry; choices = choices }))) g
 
 -- ---- faults handed on
 

@@ -1,11 +1,10 @@
 -- A step that stops at the first value that is past the range is the machine's step, unless a value is past the range.
-use Rattle.std.proofs.Common.{◌≡◌, ◌∙◌, refl, ap, sym, ℤ, pos, ◌+ℤ◌, ◌-ℤ◌, ◌*ℤ◌, neg_ℤ, List, [], ◌∷◌, ◌++◌, Option, Some, None, Result, Ok, Err, Bool, true, false}
+use Rattle.std.proofs.Common.{◌≡◌, ◌∙◌, refl, ap, sym, ℤ, ◌+ℤ◌, ◌-ℤ◌, ◌*ℤ◌, neg_ℤ, List, [], ◌∷◌, ◌++◌, Option, Some, None, Result, Ok, Err, Bool, true, false}
 use Rattle.std.specs.Prelude.{if◌then◌else◌, ◌&&◌, slice_set}
 use Rattle.std.proofs.Math.IntN.{+ℤ_idr}
 use Rattle.pc_text.specs.declared.place.Place.{Place}
 use Rattle.pc_grammar.specs.declared.tree.Choice.{Choice}
 use Rattle.pc_syntax.specs.declared.tree.Expr.{Expr, fold-roll-Expr}
-use Rattle.pc_syntax.specs.declared.tree.Expr.TheOpen as e
 use Rattle.pc_syntax.specs.declared.tree.Compare.{Compare}
 use Rattle.pc_syntax.specs.declared.tree.Right.{Right}
 use Rattle.pc_syntax.specs.declared.tree.Test.{Test}
@@ -13,9 +12,9 @@ use Rattle.pc_syntax.specs.declared.tree.Test.TheVariants as test
 use Rattle.pc_syntax.specs.declared.tree.Stmt.{Stmt, Stmt-F, out-Stmt}
 use Rattle.pc_syntax.specs.declared.tree.Stmt.TheOpen as stmt
 use Rattle.pc_syntax.specs.Values.{State, value_of, compared, holds, all_hold, chosen}
-use Rattle.pc_syntax.specs.Machine.{Outcome, Going, Violated, Blocked, Ended, step_at, step, drawn}
+use Rattle.pc_syntax.specs.Machine.{Going, Violated, Blocked, step_at, drawn}
 use Rattle.pc_runner.specs.Range.{is_in_range}
-use Rattle.pc_runner.specs.Computed.{Computed, worked, in_expr, in_all, in_test, in_choice, in_right, in_stmt, computed, first_past}
+use Rattle.pc_runner.specs.Computed.{Computed, worked, in_expr, in_all, in_test, in_choice, in_right, in_stmt, first_past}
 use Rattle.pc_runner.specs.Checked.{then_with, fits, evaluated, held, all_held, tested, with_choice, assigned, stepped_at, stepped}
 use Rattle.pc_runner.specs.Verdicts.{unless, taken}
 use Rattle.pc_syntax.proofs.Exprs.{by_cases}
@@ -68,15 +67,15 @@ fits_is p z = one_by (is_in_range z) p z
 worked_is : (s : State) (x : Expr) → (worked s x).0 ≡ value_of s x
 worked_is s =
     by_cases (λ x. (worked s x).0 ≡ value_of s x) (λ n. simp fold-roll-Expr) (λ v. simp fold-roll-Expr) (λ a p h. simp fold-roll-Expr (ap neg_ℤ h))
-        (λ a b p h g. simp fold-roll-Expr (ap (λ z. z +ℤ (worked s b).0) h ∙ ap (λ z. value_of s a +ℤ z) g))
-        (λ a b p h g. simp fold-roll-Expr (ap (λ z. z -ℤ (worked s b).0) h ∙ ap (λ z. value_of s a -ℤ z) g))
-        (λ a b p h g. simp fold-roll-Expr (ap (λ z. z *ℤ (worked s b).0) h ∙ ap (λ z. value_of s a *ℤ z) g))
+    (λ a b p h g. simp fold-roll-Expr (ap (λ z. z +ℤ (worked s b).0) h ∙ ap (λ z. value_of s a +ℤ z) g))
+    (λ a b p h g. simp fold-roll-Expr (ap (λ z. z -ℤ (worked s b).0) h ∙ ap (λ z. value_of s a -ℤ z) g))
+    (λ a b p h g. simp fold-roll-Expr (ap (λ z. z *ℤ (worked s b).0) h ∙ ap (λ z. value_of s a *ℤ z) g))
 
 unary : (f : ℤ → ℤ) (p : Place) (r : Result ℤ Place) (a : ℤ) (vs : List Computed) → r ≡ unless (first_past vs) a
     → then_with r (λ x. fits p (f x)) ≡ unless (first_past (vs ++ record { place = p; value = f a } ∷ [])) (f a)
 unary f p r a vs h =
     ap (λ r. then_with r (λ x. fits p (f x))) h ∙ then_unless (first_past vs) _ a (λ x. fits p (f x)) (f a) (fits_is p (f a))
-        ∙ ap (λ o. unless o (f a)) (sym (first_past-append vs (record { place = p; value = f a } ∷ [])))
+    ∙ ap (λ o. unless o (f a)) (sym (first_past-append vs (record { place = p; value = f a } ∷ [])))
 
 binary : (f : ℤ → ℤ → ℤ) (p : Place) (r q : Result ℤ Place) (a b : ℤ) (vs ws : List Computed) → r ≡ unless (first_past vs) a → q ≡ unless (first_past ws) b
     → then_with r (λ x. then_with q (λ y. fits p (f x y))) ≡ unless (first_past ((vs ++ ws) ++ record { place = p; value = f a b } ∷ [])) (f a b)
@@ -86,15 +85,15 @@ binary f p r q a b vs ws h g =
     let one : second a ≡ unless (or_else (first_past ws) (first_past last)) (f a b) =
     ap (λ r. then_with r (λ y. fits p (f a y))) g ∙ then_unless (first_past ws) (first_past last) b (λ y. fits p (f a y)) (f a b) (fits_is p (f a b)) in
     ap (λ r. then_with r second) h ∙ then_unless (first_past vs) (or_else (first_past ws) (first_past last)) a second (f a b) one
-        ∙ ap (λ o. unless o (f a b)) (sym (appended_twice vs ws last))
+    ∙ ap (λ o. unless o (f a b)) (sym (appended_twice vs ws last))
 
 evaluated_is : (s : State) (x : Expr) → evaluated s x ≡ unless (first_past (worked s x).1) (worked s x).0
 evaluated_is s =
     by_cases (λ x. evaluated s x ≡ unless (first_past (worked s x).1) (worked s x).0) (λ n. simp fold-roll-Expr) (λ v. simp fold-roll-Expr)
-        (λ a p h. simp fold-roll-Expr (unary neg_ℤ p (evaluated s a) (worked s a).0 (worked s a).1 h))
-        (λ a b p h g. simp fold-roll-Expr (binary (λ x y. x +ℤ y) p (evaluated s a) (evaluated s b) (worked s a).0 (worked s b).0 (worked s a).1 (worked s b).1 h g))
-        (λ a b p h g. simp fold-roll-Expr (binary (λ x y. x -ℤ y) p (evaluated s a) (evaluated s b) (worked s a).0 (worked s b).0 (worked s a).1 (worked s b).1 h g))
-        (λ a b p h g. simp fold-roll-Expr (binary (λ x y. x *ℤ y) p (evaluated s a) (evaluated s b) (worked s a).0 (worked s b).0 (worked s a).1 (worked s b).1 h g))
+    (λ a p h. simp fold-roll-Expr (unary neg_ℤ p (evaluated s a) (worked s a).0 (worked s a).1 h))
+    (λ a b p h g. simp fold-roll-Expr (binary (λ x y. x +ℤ y) p (evaluated s a) (evaluated s b) (worked s a).0 (worked s b).0 (worked s a).1 (worked s b).1 h g))
+    (λ a b p h g. simp fold-roll-Expr (binary (λ x y. x -ℤ y) p (evaluated s a) (evaluated s b) (worked s a).0 (worked s b).0 (worked s a).1 (worked s b).1 h g))
+    (λ a b p h g. simp fold-roll-Expr (binary (λ x y. x *ℤ y) p (evaluated s a) (evaluated s b) (worked s a).0 (worked s b).0 (worked s a).1 (worked s b).1 h g))
 
 value_is : (s : State) (x : Expr) → evaluated s x ≡ unless (first_past (in_expr s x)) (value_of s x)
 value_is s x = evaluated_is s x ∙ ap (unless (first_past (in_expr s x))) (worked_is s x)
@@ -107,7 +106,7 @@ both_unless : (A B C : Type 0) (r : Result A Place) (q : Result B Place) (a : A)
 both_unless A B C r q a b vs ws f h g =
     let second = λ (x : A). then_with q (λ y. Ok (f x y)) in
     ap (λ r. then_with r second) h ∙ then_unless (first_past vs) (first_past ws) a second (f a b) (pass q (first_past ws) b (f a) g)
-        ∙ ap (λ o. unless o (f a b)) (sym (first_past-append vs ws))
+    ∙ ap (λ o. unless o (f a b)) (sym (first_past-append vs ws))
 
 held_is : (s : State) (c : Compare) → held s c ≡ unless (first_past (in_expr s c.left ++ in_expr s c.right)) (holds c s)
 held_is s c = both_unless ℤ ℤ Bool (evaluated s c.left) (evaluated s c.right) (value_of s c.left) (value_of s c.right) (in_expr s c.left) (in_expr s c.right) (compared c.op) (value_is s c.left) (value_is s c.right)
@@ -124,7 +123,7 @@ all_held_is s (c ∷ cs) =
     let rest = if holds c s then in_all s cs else [] in
     let on = λ (h : Bool). if h then all_held s cs else Ok false in
     ap (λ r. then_with r on) (held_is s c) ∙ then_unless (first_past first) (first_past rest) (holds c s) on (all_hold (c ∷ cs) s) (rest_by (holds c s) (all_held s cs) (in_all s cs) (all_hold cs s) (all_held_is s cs))
-        ∙ ap (λ o. unless o (all_hold (c ∷ cs) s)) (sym (first_past-append first rest))
+    ∙ ap (λ o. unless o (all_hold (c ∷ cs) s)) (sym (first_past-append first rest))
 
 tested_is : (s : State) (t : Test) (c : ℤ) → tested s t c ≡ unless (first_past (in_test s t)) (chosen t s c)
 tested_is s test.Any c = refl
@@ -141,7 +140,7 @@ assigned_is s r c =
     let sum = value_of s r.expr +ℤ drawn r.choice c in
     let on = λ (z : ℤ). with_choice r.choice z c in
     ap (λ r. then_with r on) (value_is s r.expr) ∙ then_unless (first_past (in_expr s r.expr)) (first_past (in_choice r.choice sum)) (value_of s r.expr) on sum (chosen_is r.choice (value_of s r.expr) c)
-        ∙ ap (λ o. unless o sum) (sym (first_past-append (in_expr s r.expr) (in_choice r.choice sum)))
+    ∙ ap (λ o. unless o sum) (sym (first_past-append (in_expr s r.expr) (in_choice r.choice sum)))
 
 -- ---- steps
 

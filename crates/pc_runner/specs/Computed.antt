@@ -1,4 +1,5 @@
--- The values that a step of the machine computes, in the order in which it computes them.
+-- The values that a step of the machine computes, in the order in which it computes them. Numbers of a program and values of
+-- variables are not computed: they are in range, as those of the script and of the steps before are.
 use Rattle.std.specs.Prelude.{ℤ, pos, ◌+ℤ◌, ◌-ℤ◌, ◌*ℤ◌, neg_ℤ, List, [], ◌∷◌, ◌++◌, slice_index_or, Option, Some, None, if◌then◌else◌}
 use Rattle.pc_text.specs.declared.place.Place.{Place}
 use Rattle.pc_grammar.specs.declared.tree.Choice.{Choice}

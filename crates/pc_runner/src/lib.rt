@@ -9,6 +9,8 @@ mod reading;
 mod runs;
 mod script;
 mod testing;
+#[cfg(test)]
+mod tests;
 mod verdict;
 mod words;
 

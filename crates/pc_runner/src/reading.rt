@@ -65,7 +65,10 @@ fn read_entry(alloc: Global, line: &[u8], params: u32) -> Result<Items<i128>, Sc
     if given == params {
         Ok(values)
     } else {
-        Err(ScriptFault::Values { given, wanted: params })
+        Err(ScriptFault::Values {
+            given,
+            wanted: params,
+        })
     }
 }
 

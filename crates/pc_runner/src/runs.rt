@@ -53,7 +53,11 @@ fn verdict_of(alloc: Global, program: &Program, script: &Script) -> Result<Verdi
 }
 
 /// The entry values, and 0 for each local.
-fn state_at_start(alloc: Global, program: &Program, script: &Script) -> Result<Items<i128>, AllocError>
+fn state_at_start(
+    alloc: Global,
+    program: &Program,
+    script: &Script,
+) -> Result<Items<i128>, AllocError>
     ensures { IfOk result (λ state. state ≡ started program.now script.now.entry) }
 {
     let mut state = Items::from_slice(alloc, script.entry.as_slice())?;

@@ -13,3 +13,4 @@ pub mod SymbolFits
 pub mod Phrases
 pub mod TreeFits
 pub mod Readings
+pub mod LoopLemmas

@@ -1,6 +1,6 @@
 -- What texts are, by the function that reads them.
 use Rattle.std.proofs.Common.{◌≡◌, refl, sym, ◌∙◌, ap, subst, List, length, true, inl, inr, Result, Ok, Err}
-use Rattle.std.specs.Prelude.{◌⊎◌}
+use Rattle.std.specs.Prelude.{IfErr, IfOk, ◌≢◌, ◌⊎◌}
 use Rattle.pc_text.specs.Bytes.{Bytes}
 use Rattle.pc_text.specs.Places.{place_of}
 use Rattle.pc_text.specs.Answers as tokens
@@ -17,13 +17,14 @@ use Rattle.pc_grammar.proofs.Sound.{sound}
 use Rattle.pc_grammar.proofs.Unique as unique
 use Rattle.pc_syntax.specs.declared.program.Program.{Program}
 use Rattle.pc_syntax.specs.declared.fault.SourceFault.{SourceFault}
+use Rattle.pc_syntax.specs.declared.fault.SourceFault.TheVariants.{NoMemory}
 use Rattle.pc_syntax.specs.Forms.{bind}
 use Rattle.pc_syntax.specs.Faults.{of_tokens, of_tree, Gives}
 use Rattle.pc_grammar.specs.declared.symbol.Symbol.{Symbol}
 use Rattle.pc_text.specs.declared.place.Place.{Place}
 use Rattle.pc_syntax.specs.Trees.{fit_tree}
 use Rattle.pc_syntax.specs.Context.{Content, checked, content_of}
-use Rattle.pc_syntax.specs.Spelling.{HasTree, IsParsed, NoTokens, NoTree, Faulty, Means, MeansUnless, Alike, AlikeUnless, EachTextHasOne, EachTextHasNoMore, with_fault, tree_of, content_at, GivesProgram}
+use Rattle.pc_syntax.specs.Spelling.{Spells, HasTree, IsParsed, NoTokens, NoTree, Faulty, Means, Alike, AlikeUnless, EachTextHasOne, EachTextHasNoMore, with_fault, tree_of, content_at, GivesProgram}
 use Rattle.pc_syntax.proofs.SymbolFits.{symbols_fit}
 use Rattle.pc_syntax.proofs.TreeFits.{derived_fits}
 use Rattle.pc_syntax.proofs.WalkedStmts.{walks_are_sane}
@@ -94,10 +95,15 @@ answered src = by (tree_of src) (tree_means src)
     by (Err f) (inl h) = inl h
     by (Err f) (inr h) = inr (inl h)
 
-pub gives_means : (src : Bytes) (r : Result Program SourceFault) → GivesProgram r (content_at src) → MeansUnless r src
+pub gives_program : (src : Bytes) (r : Result Program SourceFault) → GivesProgram r (content_at src) → IfOk r (λ p. Spells src p)
 unfolding Answered
-gives_means src (Ok p) h = let a = subst (Answered src) h (answered src) in record { tree = a.0; parsed = a.1; kept = a.2 }
-gives_means src (Err f) h = λ n. subst (Answered src) (h n) (answered src)
+gives_program src (Ok p) h = let a = subst (Answered src) h (answered src) in record { tree = a.0; parsed = a.1; kept = a.2 }
+gives_program src (Err f) h = tt
+
+pub gives_fault : (src : Bytes) (r : Result Program SourceFault) → GivesProgram r (content_at src) → IfErr r (λ f. f ≢ NoMemory → Faulty src f)
+unfolding Answered
+gives_fault src (Ok p) h = tt
+gives_fault src (Err f) h = λ n. subst (Answered src) (h n) (answered src)
 
 content_is : Bytes → Result Program SourceFault → Type 0
 content_is src (Ok p) = content_at src ≡ Ok (content_of p)

@@ -3,6 +3,7 @@ pub mod Faults
 pub mod Forms
 pub mod Kept
 pub mod Laws
+pub mod Loops
 pub mod Sane
 pub mod Trees
 pub mod Machine

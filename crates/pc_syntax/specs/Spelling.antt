@@ -62,11 +62,6 @@ abbrev pub Means : Bytes → Result Program SourceFault → Type 0
 Means src (Ok p) = Spells src p
 Means src (Err f) = Faulty src f
 
--- the answer of a call is what the text is, unless memory fails
-abbrev pub MeansUnless : Result Program SourceFault → Bytes → Type 0
-MeansUnless (Ok p) src = Spells src p
-MeansUnless (Err f) src = f ≢ NoMemory → Faulty src f
-
 -- two answers are the same, programs apart from the proof that they keep their rules
 abbrev pub Alike : Result Program SourceFault → Result Program SourceFault → Type 0
 Alike (Ok p) (Ok q) = content_of p ≡ content_of q

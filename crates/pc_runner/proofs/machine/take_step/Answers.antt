@@ -1,9 +1,9 @@
-use Rattle.std.proofs.Common.{◌∙◌, sym, ap, subst, rules, FitsSigned}
+use Rattle.std.proofs.Common.{◌∙◌, sym, ap, rules, FitsSigned}
 use Rattle.std.proofs.lemmas.Int.{to_z-of_z}
 use Rattle.std.proofs.lemmas.Result.{IfOk-weaker}
 use Rattle.std.specs.Int.{w128}
 use Rattle.pc_runner.specs.Checked.{stepped}
-use Rattle.pc_runner.specs.Stack.{flat, led_to}
+use Rattle.pc_runner.specs.Stack.{flat}
 use Rattle.pc_runner.proofs.Flat.{pop_empty, pop_some}
 use Rattle.pc_runner.proofs.machine.take_step.Goals as goal
 
@@ -18,6 +18,6 @@ returns-in-len1-up c =
     let chosen : FitsSigned w128 c.args.choice = search rules in
     let stepped_on = simp to_z-of_z at c.step_at.ensures in
     IfOk-weaker c.step_at.result _ _ (λ step e.
-        pop_some c.tops.stack.items c.pop.new.self.items c.in-Some.top c.first-item.result c.tops.state c.args.choice _ c.in-Some.ensures.items c.in-len1-up.len_at_least c.first-item.is e
-            ∙ ap (λ z. stepped z c.tops.state c.args.choice) c.tops.invariant.0
-            ∙ ap (λ z. stepped (flat c.args.stack.now.items) z c.args.choice) c.tops.invariant.1) stepped_on
+    pop_some c.tops.stack.items c.pop.new.self.items c.in-Some.top c.first-item.result c.tops.state c.args.choice _ c.in-Some.ensures.items c.in-len1-up.len_at_least c.first-item.is e
+    ∙ ap (λ z. stepped z c.tops.state c.args.choice) c.tops.invariant.0
+    ∙ ap (λ z. stepped (flat c.args.stack.now.items) z c.args.choice) c.tops.invariant.1) stepped_on

@@ -1,6 +1,5 @@
-use Rattle.std.proofs.Common.{◌≡◌, ◌∷◌, ◌∙◌, ap, sym}
+use Rattle.std.proofs.Common.{sym}
 use Rattle.std.proofs.lemmas.List.{take_rest}
-use Rattle.pc_runner.specs.Words.{words}
 use Rattle.pc_runner.proofs.Parts.{words_first, words_alone}
 use Rattle.pc_runner.proofs.words.first_word.Goals as goal
 

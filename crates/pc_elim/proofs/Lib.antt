@@ -1,0 +1,17 @@
+pub mod Fractions
+pub mod Bounds
+pub mod Placing
+pub mod Completeness
+pub mod Making
+pub mod Soundness
+pub mod Counting
+pub mod SmallRows
+pub mod SmallPoints
+pub mod Absent
+pub mod Stages
+pub mod Starting
+pub mod Settlement
+pub mod Adding
+pub mod Proving
+pub mod Totals
+pub mod Deciding

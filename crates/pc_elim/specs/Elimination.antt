@@ -1,0 +1,75 @@
+-- Fourier-Motzkin elimination: a variable goes from rows by the combinations of two rows in which it has opposite signs.
+use Rattle.std.specs.Prelude.{◌≡◌, ℕ, zero, ◌+◌, ℤ, pos, neg_ℤ, ◌≤ℤ◌, int_lt, Bool, not, List, [], ◌∷◌, ◌++◌, slice_set, replicate, if◌then◌else◌}
+use Rattle.std.specs.List.{AllByRecursion, list_any}
+use Rattle.pc_rows.specs.Linear.{Linear, add_lists, scale_list, sum_of, scaled_by, coefficient, is_zero}
+use Rattle.pc_rows.specs.Shows.{nothing_row}
+pub use Rattle.pc_elim.specs.Values.{Made, Bound}
+
+abbrev pub is_positive : ℤ → Bool
+is_positive z = int_lt (pos 0) z
+
+-- the coefficient at variable k
+abbrev pub factor : Made → ℕ → ℤ
+factor r k = coefficient r.row k
+
+-- b times the first numbers plus a times the second
+abbrev pub weigh : ℤ → List ℤ → ℤ → List ℤ → List ℤ
+weigh b p a n = add_lists (scale_list b p) (scale_list a n)
+
+-- each row times the absolute value of the other's factor, where that of p is above 0 and that of n below: variable k is gone
+abbrev pub combine : ℕ → Made → Made → Made
+combine k p n =
+    record {
+      row = sum_of (scaled_by (neg_ℤ (factor n k)) p.row) (scaled_by (factor p k) n.row);
+      multipliers = weigh (neg_ℤ (factor n k)) p.multipliers (factor p k) n.multipliers;
+    }
+
+-- what is made of each row, in order
+abbrev pub flat : (Made → List Made) → List Made → List Made
+flat f [] = []
+flat f (r ∷ rs) = f r ++ flat f rs
+
+abbrev pub pair_of : ℕ → Made → Made → List Made
+pair_of k p n = if is_positive (neg_ℤ (factor n k)) then (combine k p n ∷ []) else []
+
+-- the combinations of p with each row in which the variable has a negative factor
+abbrev pub with_each : ℕ → Made → List Made → List Made
+with_each k p ns = flat (pair_of k p) ns
+
+-- a row without the variable stays; one with a positive factor is combined with each that has a negative one
+abbrev pub made_of : ℕ → List Made → Made → List Made
+made_of k all r = if is_zero (factor r k) then (r ∷ []) else if is_positive (factor r k) then with_each k r all else []
+
+abbrev pub made_from : ℕ → List Made → List Made → List Made
+made_from k all rs = flat (made_of k all) rs
+
+-- the rows without variable k, which a point can be made to meet exactly where it can be made to meet the rows
+abbrev pub eliminated : ℕ → List Made → List Made
+eliminated k rs = made_from k rs rs
+
+-- some row has the variable
+abbrev pub has_variable : ℕ → List Made → Bool
+has_variable k rs = list_any (λ r. not (is_zero (factor r k))) rs
+
+-- the sum of the rows, each times its multiplier
+abbrev pub combination : List ℤ → List Linear → Linear
+combination [] rows = nothing_row
+combination (m ∷ ms) [] = nothing_row
+combination (m ∷ ms) (r ∷ rows) = sum_of (scaled_by m r) (combination ms rows)
+
+-- what every made row keeps: its multipliers make it of the rows at the start, and none is negative
+pub record Carries (rows : List Linear) (r : Made) : Type 0 where
+  pub made : r.row ≡ combination r.multipliers rows
+  pub not_negative : AllByRecursion (λ m. pos 0 ≤ℤ m) r.multipliers
+
+-- the multipliers of row n alone, among so many
+abbrev pub unit : ℕ → ℕ → List ℤ
+unit parts n = slice_set (replicate parts (pos 0)) n (pos 1)
+
+-- at the start each row is made of itself
+abbrev pub started_from : ℕ → ℕ → List Linear → List Made
+started_from parts n [] = []
+started_from parts n (r ∷ rows) = (record { row = r; multipliers = unit parts n }) ∷ started_from parts (n + 1) rows
+
+abbrev pub started : ℕ → List Linear → List Made
+started parts rows = started_from parts zero rows

@@ -1,0 +1,97 @@
+-- What has to be in range, and how many rows there may be, for a system to be settled.
+use Rattle.std.specs.Prelude.{◌≡◌, ◌++◌, ◌+◌, ◌<◌, ◌≤◌, ℕ, suc, zero, ℤ, ◌*ℤ◌, neg_ℤ, Bool, true, false, List, [], ◌∷◌, Option, Some, None, Result, Ok, Err, length}
+use Rattle.std.specs.List.{AllByRecursion}
+use Rattle.pc_rows.specs.Linear.{Linear, InRange, AllInRange, IsInRange, scale_list, sum_of, scaled_by}
+use Rattle.pc_rows.specs.Evidence.{Point}
+use Rattle.pc_rows.specs.Points.{NumeratorFits, over_multiple}
+use Rattle.pc_elim.specs.declared.settle.Found.{Found}
+use Rattle.pc_elim.specs.declared.settle.Found.TheVariants.{Shown, At}
+use Rattle.pc_elim.specs.declared.made.Fault.{Fault}
+use Rattle.pc_elim.specs.declared.made.Fault.TheVariants.{Past, Full, NoMemory}
+use Rattle.pc_elim.specs.declared.made.TheConstants.{LIMIT}
+use Rattle.pc_elim.specs.Elimination.{Made, Bound, is_positive, factor, weigh, eliminated}
+use Rattle.pc_elim.specs.Placing.{bound_of, turned, next_bound, greatest}
+use Rattle.pc_elim.specs.Settling.{settle}
+
+pub record RowFits (b : ℤ) (p : Linear) (a : ℤ) (n : Linear) : Type 0 where
+  pub left : IsInRange (scaled_by b p)
+  pub right : IsInRange (scaled_by a n)
+  pub sum : IsInRange (sum_of (scaled_by b p) (scaled_by a n))
+
+pub record WeighFits (b : ℤ) (p : List ℤ) (a : ℤ) (n : List ℤ) : Type 0 where
+  pub left : AllInRange (scale_list b p)
+  pub right : AllInRange (scale_list a n)
+  pub sum : AllInRange (weigh b p a n)
+
+pub record CombineFits (k : ℕ) (p n : Made) : Type 0 where
+  pub row : RowFits (neg_ℤ (factor n k)) p.row (factor p k) n.row
+  pub multipliers : WeighFits (neg_ℤ (factor n k)) p.multipliers (factor p k) n.multipliers
+
+-- only rows that are combined have to fit
+abbrev pub PairFits : ℕ → Made → Made → Type 0
+PairFits k p n = is_positive (neg_ℤ (factor n k)) ≡ true → CombineFits k p n
+
+abbrev pub AllPairsFit : ℕ → List Made → Made → Type 0
+AllPairsFit k all r = is_positive (factor r k) ≡ true → AllByRecursion (PairFits k r) all
+
+-- the items are added, unless a number does not fit, there is no room, or no memory
+abbrev pub Adds : List Made → Type 0 → List Made → Result (Unit {0}) Fault → List Made → Type 0
+Adds items Fits old (Ok u) new = new ≡ old ++ items
+Adds items Fits old (Err Past) new = Fits → ⊥
+Adds items Fits old (Err Full) new = LIMIT < length old + length items
+Adds items Fits old (Err NoMemory) new = Unit {0}
+
+-- the value, unless what has to be in range is not
+abbrev pub Unless : {A E : Type 0} → Result A E → A → Type 0 → Type 0
+Unless (Ok x) v Fits = x ≡ v
+Unless (Err e) v Fits = Fits → ⊥
+
+-- the cross products
+abbrev pub GreaterFits : Option Bound → Bound → Type 0
+GreaterFits None b = Unit {0}
+GreaterFits (Some a) b = InRange (a.number *ℤ b.weight) × InRange (b.number *ℤ a.weight)
+
+pub record BoundFits (opposite : Bool) (k : ℕ) (p : Point) (best : Option Bound) (r : Made) : Type 0 where
+  pub value : NumeratorFits r.row p
+  pub greater : GreaterFits best (bound_of opposite k p r)
+
+abbrev pub NextFits : Bool → ℕ → Point → Option Bound → Made → Type 0
+NextFits opposite k p best r = is_positive (turned opposite (factor r k)) ≡ true → BoundFits opposite k p best r
+
+abbrev pub GreatestFits : Bool → ℕ → Point → Option Bound → List Made → Type 0
+GreatestFits opposite k p best [] = Unit {0}
+GreatestFits opposite k p best (r ∷ rs) = NextFits opposite k p best r × GreatestFits opposite k p (next_bound opposite k p best r) rs
+
+pub record AtFits (p : Point) (b : Bound) : Type 0 where
+  pub numerators : AllInRange (over_multiple b.weight p).numerators
+  pub denominator : InRange (over_multiple b.weight p).denominator
+
+abbrev pub ByFits : Point → Option Bound → Option Bound → Type 0
+ByFits p (Some lower) upper = AtFits p lower
+ByFits p None (Some upper) = AtFits p upper
+ByFits p None None = Unit {0}
+
+pub record PlacedFits (k : ℕ) (rs : List Made) (p : Point) : Type 0 where
+  pub lower : GreatestFits false k p None rs
+  pub upper : GreatestFits true k p None rs
+  pub at : ByFits p (greatest false k p None rs) (greatest true k p None rs)
+
+abbrev pub BackFits : ℕ → List Made → Found → Type 0
+BackFits k rs (Shown multipliers) = Unit {0}
+BackFits k rs (At p) = PlacedFits k rs p
+
+-- all that is computed to settle the rows is in range, and there is room for the rows
+abbrev pub Calm : ℕ → ℕ → ℕ → List Made → Type 0
+Calm width zero k rs = Unit {0}
+Calm width (suc n) k rs =
+    AllByRecursion (AllPairsFit k rs) rs ×
+    length (eliminated k rs) ≤ LIMIT ×
+    Calm width n (suc k) (eliminated k rs) ×
+    BackFits k rs (settle width n (suc k) (eliminated k rs))
+
+-- the answer, unless something does not fit, or there is no memory
+abbrev pub SettleIs : {A : Type 0} → A → Type 0 → Result A Fault → Type 0
+SettleIs v Fits (Ok f) = f ≡ v
+SettleIs v Fits (Err Past) = Fits → ⊥
+SettleIs v Fits (Err Full) = Fits → ⊥
+SettleIs v Fits (Err NoMemory) = Unit {0}

@@ -1,0 +1,6 @@
+pub mod Values
+pub mod Elimination
+pub mod Placing
+pub mod Settling
+pub mod Fits
+pub mod Deciding

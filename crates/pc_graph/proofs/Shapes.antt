@@ -1,0 +1,289 @@
+-- What the rules make: as many points as numbers, no more of them than edges, and edges that lead up or back to a head.
+use Rattle.std.proofs.Common.{◌≡◌, ℕ, ◌+◌, ◌<◌, ◌≤◌, ℤ, pos, ◌≤ℤ◌, List, [], ◌∷◌, ◌++◌, length, Bool, true, false, refl, sym, ap, subst, ◌∙◌, arith, map, inl, inr, length-append, int_le}
+use Rattle.std.specs.Prelude.{◌⊎◌, ◌&&◌, ◌||◌, ◌==◌, nat_lt, Option, Some, None}
+use Rattle.std.specs.List.{AllByRecursion as Each, list_any}
+use Rattle.std.proofs.lemmas.Bool.Decides.{nat_tests}
+use Rattle.std.proofs.lemmas.Int.{ints}
+use Rattle.pc_text.specs.declared.place.Place.{Place}
+use Rattle.pc_grammar.specs.declared.tree.Bound.{Bound}
+use Rattle.pc_grammar.specs.declared.tree.Bound.TheVariants as bound
+use Rattle.pc_grammar.specs.declared.tree.Choice.{Choice}
+use Rattle.pc_rows.specs.Linear.{Linear, in_range, negation}
+use Rattle.pc_rows.specs.declared.row.TheConstants.{VARIABLES}
+use Rattle.pc_rows.proofs.Ranges.{is_in}
+use Rattle.pc_syntax.specs.Forms.{rows_all}
+use Rattle.pc_syntax.specs.Machine.{end_of}
+use Rattle.pc_syntax.specs.Sane.{sane_stmt, sane_step, sane_stmts, sane_test, sane_each, sane_all, sane_right, sane_expr, sane_choice, in_order}
+use Rattle.pc_syntax.specs.declared.tree.Compare.{Compare}
+use Rattle.pc_syntax.specs.declared.tree.Right.{Right}
+use Rattle.pc_syntax.specs.declared.tree.Test.{Test as Condition}
+use Rattle.pc_syntax.specs.declared.tree.Test.TheVariants as test
+use Rattle.pc_syntax.specs.declared.tree.Stmt.{Stmt, roll-Stmt, fold-roll-Stmt}
+use Rattle.pc_syntax.specs.declared.tree.Stmt.TheOpen as stmt
+use Rattle.pc_syntax.proofs.Results.{and_is}
+use Rattle.pc_graph.specs.declared.draft.Loop.{Loop}
+use Rattle.pc_graph.specs.declared.what.TheConstants.{TEST_ROWS}
+use Rattle.pc_graph.specs.Arc.{What, Enter, Test, Set, Check, Arc, arc, IsFit, BoundsFit}
+use Rattle.pc_graph.specs.Lists.{In}
+use Rattle.pc_graph.specs.Lowering.{Piece, Rule, one, tests, all_alike, join_edges, low_end, high_end, assigned, rule, rule_step, rules}
+use Rattle.pc_graph.specs.Shape.{IsOver}
+use Rattle.pc_graph.specs.Ways.{is_lone, apart, ways_of, ways}
+use Rattle.pc_graph.proofs.Cases.{by_cases}
+use Rattle.pc_graph.proofs.Lists.{each_left, each_right, each_join, each_more, each_all}
+use Rattle.pc_graph.proofs.Ready.{IsReady, ready_few, test_ready, all_ready}
+use Rattle.pc_graph.proofs.Unrolled.{rule-if, rule-while, sane-if, sane-while}
+
+-- the number is the head of one of the loops
+abbrev pub HeadIn : List Loop → ℕ → Type 0
+HeadIn loops p = list_any (λ l. l.head == p) loops ≡ true
+
+-- an edge joins points below m, leads up or back to a head, and is within the limits of v variables
+pub record IsUp (v m : ℕ) (loops : List Loop) (e : Arc) : Type 0 where
+  pub leaves : e.from < m
+  pub reaches : e.to < m
+  pub rises : (e.from < e.to) ⊎ HeadIn loops e.to
+  pub over : IsOver v e.what
+  pub fit : IsFit e.what
+
+-- of a piece that is made from the number n on
+pub record Shaped (v n : ℕ) (a : Piece) : Type 0 where
+  pub more : n ≤ a.next
+  pub last : a.last < a.next
+  pub away : 0 < a.last
+  pub points : a.next ≡ n + length a.places
+  pub few : a.next ≤ n + length a.edges
+  pub bodies : length a.bodies ≡ length a.edges
+  pub heads : Each (λ l. 0 < l.head) a.loops
+  pub edges : (m : ℕ) (loops : List Loop) → a.next ≤ m → Each (λ l. In l loops) a.loops → Each (IsUp v m loops) a.edges
+
+or_left : (a b : Bool) → a ≡ true → (a || b) ≡ true
+or_left true b h = refl
+or_left false b h = cc
+
+or_right : (a b : Bool) → b ≡ true → (a || b) ≡ true
+or_right true b h = refl
+or_right false b h = h
+
+same_number : (n : ℕ) → (n == n) ≡ true
+same_number n = grind (arith, nat_tests)
+
+head_in : (loops : List Loop) (l : Loop) → In l loops → HeadIn loops l.head
+head_in [] l m = absurd m
+head_in (k ∷ loops) l (inl e) =
+    or_left (k.head == l.head) (list_any (λ k. k.head == l.head) loops) (subst (λ (z : Loop). (z.head == l.head) ≡ true) e (same_number l.head))
+head_in (k ∷ loops) l (inr m) = or_right (k.head == l.head) (list_any (λ k. k.head == l.head) loops) (head_in loops l m)
+
+-- ---- rows and ends within their limits
+
+one_few : (rows : List Linear) → Each (λ w. length w ≤ TEST_ROWS) (apart rows)
+one_few [] = tt
+one_few (r ∷ rows) = (omega arith, one_few rows)
+
+ways_of_few : (lone b : Bool) (rows : List Linear) → length rows ≤ TEST_ROWS → Each (λ w. length w ≤ TEST_ROWS) (ways_of lone rows b)
+ways_of_few true true rows h = one_few rows
+ways_of_few true false rows h = (h, tt)
+ways_of_few false true rows h = (h, tt)
+ways_of_few false false rows h = one_few rows
+
+ways_few : (n : ℕ) (t : Condition) (b : Bool) → sane_test n t ≡ true → Each (λ w. length w ≤ TEST_ROWS) (ways t b)
+ways_few n test.Any b h = (omega arith, tt)
+ways_few n (test.All cs) b h = ways_of_few (is_lone cs) b (rows_all cs) (ready_few cs (rows_all cs) refl (test_ready n cs h))
+
+le_of_test : (a b : ℤ) → int_le a b ≡ true → a ≤ℤ b
+le_of_test a b h = grind (arith, ints)
+
+-- a test has an edge
+way_of_has : (lone : Bool) (rows : List Linear) → 1 ≤ length (ways_of lone rows true) + length (ways_of lone rows false)
+way_of_has true rows = omega arith
+way_of_has false rows = omega arith
+
+test_has : (t : Condition) → 1 ≤ length (ways t true) + length (ways t false)
+test_has test.Any = omega arith
+test_has (test.All cs) = way_of_has (is_lone cs) (rows_all cs)
+
+ends_fit : (lo hi : Bound) → in_order lo hi ≡ true → BoundsFit lo hi
+ends_fit (bound.At lo) (bound.At hi) h =
+    let a = and_is (in_range lo) (in_range hi && int_le lo hi) h in
+    let b = and_is (in_range hi) (int_le lo hi) a.1 in
+    record { low = is_in lo a.0; high = is_in hi b.0; ordered = le_of_test lo hi b.1 }
+
+choice_fits : (o : Option Choice) → sane_choice o ≡ true → BoundsFit (low_end o) (high_end o)
+choice_fits None h = ends_fit (bound.At (pos 0)) (bound.At (pos 0)) refl
+choice_fits (Some choice) h = ends_fit choice.lo choice.hi h
+
+below : (a b : ℕ) → nat_lt a b ≡ true → a < b
+below a b h = grind (arith, nat_tests)
+
+assigned_fits : (n v : ℕ) (r : Right) → n ≤ VARIABLES → v < n → sane_right n r ≡ true → IsFit (assigned v r)
+assigned_fits n v r few lt h = (omega arith, choice_fits r.choice (and_is (sane_expr n r.expr) (sane_choice r.choice) h).1)
+
+-- ---- rules
+
+module _ (v : ℕ) (few : v ≤ VARIABLES) where
+  tests_up : (m : ℕ) (loops : List Loop) (p q : ℕ) (ws : List (List Linear)) → p < q → q < m → Each (λ w. length w ≤ TEST_ROWS) ws → Each (IsUp v m loops) (tests p q ws)
+  tests_up m loops p q [] h k f = tt
+  tests_up m loops p q (w ∷ ws) h k f = (record { leaves = omega arith; reaches = k; rises = inl h; over = tt; fit = f.0 }, tests_up m loops p q ws h k f.1)
+
+  join_up : (m : ℕ) (loops : List Loop) (p q : ℕ) → p < q → q < m → IsUp v m loops (arc p q (Test []))
+  join_up m loops p q h k = record { leaves = omega arith; reaches = k; rises = inl h; over = tt; fit = omega arith }
+
+  tests-length : (p q : ℕ) (ws : List (List Linear)) → length (tests p q ws) ≡ length ws
+  tests-length p q [] = refl
+  tests-length p q (w ∷ ws) = let h = tests-length p q ws in omega arith
+
+  alike-length : (b : Bool) (ws : List (List Linear)) → length (all_alike b ws) ≡ length ws
+  alike-length b [] = refl
+  alike-length b (w ∷ ws) = let h = alike-length b ws in omega arith
+
+  abbrev ShapedBy : Bool → Rule → Type 0
+  ShapedBy b l = (p n : ℕ) → b ≡ true → 0 < p → p < n → Shaped v n (l p n)
+
+  abbrev ShapedOne : Stmt → Type 0
+  ShapedOne x = ShapedBy (sane_stmt v x) (rule x)
+
+  shaped_by : (b c : Bool) (l m : Rule) → b ≡ c → l ≡ m → ShapedBy c m → ShapedBy b l
+  shaped_by b c l m eb el h = subst (λ b. ShapedBy b l) (sym eb) (subst (λ (l : Rule). ShapedBy c l) (sym el) h)
+
+  list_shaped : (ss : List Stmt) → Each ShapedOne ss → ShapedBy (sane_stmts v ss) (rules ss)
+  list_shaped [] all p n s pos_p h =
+      record { more = omega arith; last = h; away = pos_p; points = omega arith; few = omega arith; bodies = refl; heads = tt; edges = λ m loops le ins. tt }
+  list_shaped (x ∷ ss) all p n s pos_p h =
+      let ok = and_is (sane_stmt v x) (sane_stmts v ss) s in
+      let a = rule x p n in
+      let f = all.0 p n ok.0 pos_p h in
+      let b = rules ss a.last a.next in
+      let r = list_shaped ss all.1 a.last a.next ok.1 f.away f.last in
+      let f1 = f.more in
+      let f2 = f.points in
+      let f3 = f.few in
+      let f4 = f.bodies in
+      let r1 = r.more in
+      let r2 = r.points in
+      let r3 = r.few in
+      let r4 = r.bodies in
+      record {
+        more = omega arith;
+        last = r.last;
+        away = r.away;
+        points = omega (arith, length-append a.places b.places);
+        few = omega (arith, length-append a.edges b.edges);
+        bodies = omega (arith, length-append a.edges b.edges, length-append a.bodies b.bodies);
+        heads = each_join (λ l. 0 < l.head) a.loops b.loops f.heads r.heads;
+        edges = λ m loops le ins. each_join (IsUp v m loops) a.edges b.edges (f.edges m loops (omega arith) (each_left (λ l. In l loops) a.loops b.loops ins))
+            (r.edges m loops le (each_right (λ l. In l loops) a.loops b.loops ins));
+      }
+
+  one_shaped : (place : Place) (w : What) → IsOver v w → IsFit w → (p n : ℕ) → 0 < p → p < n → Shaped v n (one place w p n)
+  one_shaped place w over fit p n pos_p h =
+      record {
+        more = omega arith;
+        last = omega arith;
+        away = omega arith;
+        points = omega arith;
+        few = omega arith;
+        bodies = refl;
+        heads = tt;
+        edges = λ m loops le ins. (record { leaves = omega arith; reaches = omega arith; rises = inl h; over = over; fit = fit }, tt);
+      }
+
+  split_shaped : (place : Place) (t : Condition) (xs ys : List Stmt) → ShapedBy (sane_stmts v xs) (rules xs) → ShapedBy (sane_stmts v ys) (rules ys) →
+      ShapedBy (sane_test v t && (sane_stmts v xs && sane_stmts v ys)) (rule_step (stmt.If place t (map rule xs) (map rule ys)))
+  split_shaped place t xs ys hx hy p n s pos_p h =
+      let ok = and_is (sane_test v t) (sane_stmts v xs && sane_stmts v ys) s in
+      let ok2 = and_is (sane_stmts v xs) (sane_stmts v ys) ok.1 in
+      let a = rules xs n (n + 1) in
+      let b = rules ys a.next (a.next + 1) in
+      let f = hx n (n + 1) ok2.0 (omega arith) (omega arith) in
+      let f1 = f.more in
+      let f2 = f.points in
+      let f3 = f.few in
+      let f4 = f.bodies in
+      let f5 = f.last in
+      let r = hy a.next (a.next + 1) ok2.1 (omega arith) (omega arith) in
+      let r1 = r.more in
+      let r2 = r.points in
+      let r3 = r.few in
+      let r4 = r.bodies in
+      let r5 = r.last in
+      let trues = ways t true in
+      let falses = ways t false in
+      let ends = join_edges a.last b.last b.next in
+      let e1 = tests-length p n trues in
+      let e2 = tests-length p a.next falses in
+      let b1 = alike-length false trues in
+      let b2 = alike-length false falses in
+      record {
+        more = omega arith;
+        last = omega arith;
+        away = omega arith;
+        points = omega (arith, length-append a.places (place ∷ (b.places ++ (place ∷ []))), length-append b.places (place ∷ []));
+        few = omega (arith, length-append (tests p n trues) (a.edges ++ (tests p a.next falses ++ (b.edges ++ ends))), length-append a.edges (tests p a.next falses ++ (b.edges ++ ends)),
+            length-append (tests p a.next falses) (b.edges ++ ends), length-append b.edges ends, test_has t);
+        bodies = omega (arith, length-append (tests p n trues) (a.edges ++ (tests p a.next falses ++ (b.edges ++ ends))), length-append a.edges (tests p a.next falses ++ (b.edges ++ ends)),
+            length-append (tests p a.next falses) (b.edges ++ ends), length-append b.edges ends,
+            length-append (all_alike false trues) (a.bodies ++ (all_alike false falses ++ (b.bodies ++ all_alike false ends))),
+            length-append a.bodies (all_alike false falses ++ (b.bodies ++ all_alike false ends)), length-append (all_alike false falses) (b.bodies ++ all_alike false ends),
+            length-append b.bodies (all_alike false ends));
+        heads = each_join (λ l. 0 < l.head) a.loops b.loops f.heads r.heads;
+        edges = λ m loops le ins.
+            each_join (IsUp v m loops) (tests p n trues) _ (tests_up m loops p n trues h (omega arith) (ways_few v t true ok.0))
+            (each_join (IsUp v m loops) a.edges _ (f.edges m loops (omega arith) (each_left (λ l. In l loops) a.loops b.loops ins))
+            (each_join (IsUp v m loops) (tests p a.next falses) _ (tests_up m loops p a.next falses (omega arith) (omega arith) (ways_few v t false ok.0))
+            (each_join (IsUp v m loops) b.edges ends (r.edges m loops (omega arith) (each_right (λ l. In l loops) a.loops b.loops ins))
+            (join_up m loops a.last b.next (omega arith) (omega arith), (join_up m loops b.last b.next (omega arith) (omega arith), tt)))));
+      }
+
+  loop_shaped : (place : Place) (t : Condition) (tried : List Compare) (xs : List Stmt) → ShapedBy (sane_stmts v xs) (rules xs) →
+      ShapedBy (sane_test v t && (sane_each v tried && sane_stmts v xs)) (rule_step (stmt.While place t tried (map rule xs)))
+  loop_shaped place t tried xs hx p n s pos_p h =
+      let ok = and_is (sane_test v t) (sane_each v tried && sane_stmts v xs) s in
+      let ok2 = and_is (sane_each v tried) (sane_stmts v xs) ok.1 in
+      let a = rules xs n (n + 1) in
+      let f = hx n (n + 1) ok2.1 (omega arith) (omega arith) in
+      let f1 = f.more in
+      let f2 = f.points in
+      let f3 = f.few in
+      let f4 = f.bodies in
+      let f5 = f.last in
+      let trues = ways t true in
+      let falses = ways t false in
+      let back = arc a.last p (Test []) in
+      let e1 = tests-length p n trues in
+      let e2 = tests-length p a.next falses in
+      let b1 = alike-length true trues in
+      let b2 = alike-length false falses in
+      record {
+        more = omega arith;
+        last = omega arith;
+        away = omega arith;
+        points = omega (arith, length-append a.places (place ∷ []));
+        few = omega (arith, length-append (tests p n trues) (a.edges ++ (back ∷ tests p a.next falses)), length-append a.edges (back ∷ tests p a.next falses), test_has t);
+        bodies = omega (arith, length-append (tests p n trues) (a.edges ++ (back ∷ tests p a.next falses)), length-append a.edges (back ∷ tests p a.next falses),
+            length-append (all_alike true trues) (a.bodies ++ (false ∷ all_alike false falses)), length-append a.bodies (false ∷ all_alike false falses));
+        heads = (pos_p, f.heads);
+        edges = λ m loops le ins.
+            each_join (IsUp v m loops) (tests p n trues) _ (tests_up m loops p n trues h (omega arith) (ways_few v t true ok.0))
+            (each_join (IsUp v m loops) a.edges _ (f.edges m loops (omega arith) ins.1) (
+              record { leaves = omega arith; reaches = omega arith; rises = inr (head_in loops (record { head = p; tried = rows_all tried }) ins.0); over = tt; fit = omega arith },
+              tests_up m loops p a.next falses (omega arith) (omega arith) (ways_few v t false ok.0),
+            ));
+      }
+
+  shaped : (x : Stmt) → ShapedOne x
+  shaped x = by_cases ShapedOne
+      (λ place u r. shaped_by _ (nat_lt u v && sane_right v r) _ (one place (assigned u r)) (fold-roll-Stmt Bool (sane_step v) (stmt.Set place u r)) (fold-roll-Stmt Rule rule_step (stmt.Set place u r))
+          (λ p n s pos_p h.
+          let ok = and_is (nat_lt u v) (sane_right v r) s in
+          one_shaped place (assigned u r) (below u v ok.0) (assigned_fits v u r few (below u v ok.0) ok.1) p n pos_p h))
+      (λ place t xs ys hx hy. shaped_by _ (sane_test v t && (sane_stmts v xs && sane_stmts v ys)) _ (rule_step (stmt.If place t (map rule xs) (map rule ys)))
+          (sane-if v place t xs ys) (rule-if place t xs ys) (split_shaped place t xs ys (list_shaped xs hx) (list_shaped ys hy)))
+      (λ place t tried xs hx. shaped_by _ (sane_test v t && (sane_each v tried && sane_stmts v xs)) _ (rule_step (stmt.While place t tried (map rule xs)))
+          (sane-while v place t tried xs) (rule-while place t tried xs) (loop_shaped place t tried xs (list_shaped xs hx)))
+      (λ place cs. shaped_by _ (sane_all v cs) _ (one place (Check (rows_all cs))) (fold-roll-Stmt Bool (sane_step v) (stmt.Assert place cs)) (fold-roll-Stmt Rule rule_step (stmt.Assert place cs))
+          (λ p n s pos_p h. one_shaped place (Check (rows_all cs)) tt (ready_few cs (rows_all cs) refl (all_ready v cs s)) p n pos_p h))
+      (λ place cs. shaped_by _ (sane_all v cs) _ (one place (Test (rows_all cs))) (fold-roll-Stmt Bool (sane_step v) (stmt.Assume place cs)) (fold-roll-Stmt Rule rule_step (stmt.Assume place cs))
+          (λ p n s pos_p h. one_shaped place (Test (rows_all cs)) tt (ready_few cs (rows_all cs) refl (all_ready v cs s)) p n pos_p h))
+      x
+
+  pub all_shaped : (ss : List Stmt) → ShapedBy (sane_stmts v ss) (rules ss)
+  all_shaped ss = list_shaped ss (each_all ShapedOne shaped ss)

@@ -1,0 +1,178 @@
+//! A graph in the making.
+
+ghost use Rattle.std.specs.Prelude.{◌≡◌, ◌<◌, ◌-◌, ◌^◌, OnOk, IfOk, true};
+ghost use Rattle.std.specs.List.{list_all};
+ghost use Rattle.pc_syntax.specs.Forms.{row_fits, rows_all};
+ghost use Rattle.pc_syntax.specs.Sane.{sane_test};
+ghost use Rattle.pc_syntax.specs.declared.tree.Test.TheVariants.{All};
+ghost use Rattle.pc_graph.specs.Arc.{IsFit, arc};
+ghost use Rattle.pc_graph.specs.Drawn.{begun, extended, with_point, with_edge, with_tests, branched, joined_at, turned, headed};
+ghost use Rattle.pc_graph.specs.Lowering.{one};
+ghost use Rattle.pc_graph.specs.Ways.{apart, is_lone, ways_of, ways};
+
+use crate::edge::Edge;
+use crate::row::{is_lone, negation, only};
+use crate::what::What;
+use pc_rows::Rows;
+use pc_syntax::{Compare, Test, rows_of};
+use pc_text::{NoMemory, Place};
+use sqlite_items::Items;
+use std::alloc::Global;
+use std::marker::Model;
+
+/// The head of a loop, and the rows that the loop tries.
+#[derive(Drop)]
+pub struct Loop {
+    pub head: u32,
+    pub tried: Rows,
+}
+
+/// What the rules have made so far: the present point, the number of the next point, the places of the points, the edges
+/// with whether each leads into the body of a loop, and the loops.
+#[derive(Drop)]
+pub struct Draft {
+    pub at: u32,
+    pub next: u32,
+    pub places: Items<Place>,
+    pub edges: Items<Edge>,
+    pub bodies: Items<bool>,
+    pub loops: Items<Loop>,
+}
+
+impl Model for Draft {
+    ghost use Rattle.pc_graph.specs.Drawn.{Drawn};
+
+    ghost Value = { Drawn };
+
+    ghost view = { λ d. record { at = d.at; next = d.next; places = d.places; edges = d.edges; bodies = d.bodies; loops = d.loops } };
+}
+
+impl Draft {
+    /// Nothing but the present point and the number of the next.
+    pub fn new(alloc: Global, at: u32, next: u32) -> Draft
+        ensures { result ≡ begun at next }
+    {
+        Draft {
+            at,
+            next,
+            places: Items::new(alloc),
+            edges: Items::new(alloc),
+            bodies: Items::new(alloc),
+            loops: Items::new(alloc),
+        }
+    }
+
+    /// The present point.
+    pub fn at(&self) -> u32
+        ensures { result ≡ self.now.at }
+    {
+        self.at
+    }
+
+    /// An edge from the present point to a new one.
+    pub fn link(&mut self, place: Place, what: What) -> Result<(), NoMemory>
+        requires fit { IsFit what }
+        requires room { self.old.next < 2 ^ 32 - 1 }
+        ensures { OnOk result (self.new ≡ extended self.old (one place what self.old.at self.old.next)) }
+    {
+        let from = self.at;
+        let to = self.point(place)?;
+        self.edge(from, to, what, false)
+    }
+
+    /// A new point, which is the present one from now on.
+    pub fn point(&mut self, place: Place) -> Result<u32, NoMemory>
+        requires { self.old.next < 2 ^ 32 - 1 }
+        ensures number { IfOk result (λ p. p ≡ self.old.next) }
+        ensures made { OnOk result (self.new ≡ with_point place self.old) }
+    {
+        if self.places.push(place).is_err() {
+            return Err(NoMemory);
+        }
+        self.at = self.next;
+        self.next += 1;
+        Ok(self.at)
+    }
+
+    /// An edge, and whether it leads from a head into the body of its loop.
+    pub fn edge(&mut self, from: u32, to: u32, what: What, body: bool) -> Result<(), NoMemory>
+        requires { IsFit what }
+        ensures { OnOk result (self.new ≡ with_edge (arc «from» to what) body self.old) }
+    {
+        if self.bodies.push(body).is_err() {
+            return Err(NoMemory);
+        }
+        match self.edges.push(Edge { from, to, what }) {
+            Ok(()) => Ok(()),
+            Err(_) => Err(NoMemory),
+        }
+    }
+
+    /// The edges of one side of a test, from `p` to a new point. `body` says whether they lead into the body of a loop.
+    pub fn branch(&mut self, alloc: Global, n: u32, p: u32, place: Place, test: &Test, side: bool, body: bool) -> Result<(), NoMemory>
+        requires sane { sane_test n test.now ≡ true }
+        requires room { self.old.next < 2 ^ 32 - 1 }
+        ensures { OnOk result (self.new ≡ branched p place (ways test.now side) body self.old) }
+    {
+        let to = self.point(place)?;
+        match test {
+            Test::Any => self.edge(p, to, What::Test(Rows::new(alloc)), body),
+            Test::All(all) => self.ways(alloc, n, p, to, all.as_slice(), side, body),
+        }
+    }
+
+    /// The edges of one side of a conjunction: one for all rows, or one for the negation of each.
+    fn ways(&mut self, alloc: Global, n: u32, p: u32, to: u32, all: &[Compare], side: bool, body: bool) -> Result<(), NoMemory>
+        requires sane { sane_test n (All all.now) ≡ true }
+        ensures { OnOk result (self.new ≡ with_tests p to (ways_of (is_lone all.now) (rows_all all.now) side) body self.old) }
+    {
+        let rows = rows_of(alloc, all)?;
+        if is_lone(all) == side {
+            self.spread(alloc, p, to, &rows, body)
+        } else {
+            self.edge(p, to, What::Test(rows), body)
+        }
+    }
+
+    /// An edge for the negation of each row.
+    fn spread(&mut self, alloc: Global, p: u32, to: u32, rows: &Rows, body: bool) -> Result<(), NoMemory>
+        requires { list_all row_fits rows.now ≡ true }
+        ensures { OnOk result (self.new ≡ with_tests p to (apart rows.now) body self.old) }
+    {
+        for i in 0..rows.len() {
+            let alone = only(alloc, negation(rows.at(i)))?;
+            self.edge(p, to, What::Test(alone), body)?;
+        }
+        Ok(())
+    }
+
+    /// The edges from the end `t` of a block and from the present point to a new one.
+    pub fn join(&mut self, alloc: Global, place: Place, t: u32) -> Result<(), NoMemory>
+        requires { self.old.next < 2 ^ 32 - 1 }
+        ensures { OnOk result (self.new ≡ joined_at place t self.old) }
+    {
+        let from = self.at;
+        let to = self.point(place)?;
+        self.edge(t, to, What::Test(Rows::new(alloc)), false)?;
+        self.edge(from, to, What::Test(Rows::new(alloc)), false)
+    }
+
+    /// The edge from the present point back to a head.
+    pub fn turn(&mut self, alloc: Global, head: u32) -> Result<(), NoMemory>
+        ensures { OnOk result (self.new ≡ turned head self.old) }
+    {
+        let from = self.at;
+        self.edge(from, head, What::Test(Rows::new(alloc)), false)
+    }
+
+    /// The present point becomes the head of a loop that tries the rows.
+    pub fn head(&mut self, tried: Rows) -> Result<(), NoMemory>
+        ensures { OnOk result (self.new ≡ headed tried self.old) }
+    {
+        let head = self.at;
+        match self.loops.push(Loop { head, tried }) {
+            Ok(()) => Ok(()),
+            Err(_) => Err(NoMemory),
+        }
+    }
+}
