@@ -9,10 +9,10 @@ use Rattle.pc_app.specs.declared.limits.TheConstants.{SOURCE_BYTES}
 use Rattle.pc_app.specs.Words.{IsInfer, IsPlain}
 use Rattle.pc_app.specs.Answers.{SourceAnswers}
 use Rattle.pc_app.specs.Silences.{LacksFile}
-use Rattle.pc_app.specs.Promises.{OfBytes, PrintedSuffices, PrintedIsExact, IsAnswered, HasAnswered, IsCutOff, IsComplete, Ends}
+use Rattle.pc_app.specs.Promises.{OfBytes, PrintedSuffices, PrintedIsExact, IsAnswered, HasAnswered, IsCutOff, Ends}
 use Rattle.pc_app.specs.Promises.Ends.{Answered, Unread, CutOff, Starved}
-use Rattle.pc_app.specs.Promises.IsComplete.{Starved as IsStarved}
-use Rattle.pc_app.proofs.AnswerLemmas.{same_name, infer_answers, answers_is_answered, answers_usage, file_of_held, file_of_nothing, source_too_long, source_refused, source_is_exact, source_is_complete}
+use Rattle.pc_app.specs.Built.{IsAnalysed}
+use Rattle.pc_app.proofs.AnswerLemmas.{same_name, infer_answers, answers_is_answered, answers_usage, file_of_held, file_of_nothing, source_too_long, source_refused, source_is_exact, source_is_done}
 
 -- a promise on the bytes that are held
 of_bytes : (P : Bytes → Type 0) (held : Holding) → ((bytes : Bytes) → held ≡ Held bytes → P bytes) → (held ≡ Nothing → ⊥) → OfBytes P held
@@ -60,8 +60,8 @@ module _ (words : List Bytes) (held : Bytes → Holding) (old new : Option Bytes
   pub too_long : Ended → (name bytes : Bytes) → IsInfer words name → held name ≡ Held bytes → IsAnswered status → (status ≡ TOO_LONG) ↔ (SOURCE_BYTES < length bytes)
   too_long ends name bytes infer e is = let a = source ends is name bytes infer e in source_too_long bytes status a.0 a.1
 
-  pub refused : Ended → (name bytes : Bytes) → IsInfer words name → held name ≡ Held bytes → IsAnswered status → length bytes ≤ SOURCE_BYTES → ((p : Program) → Spells bytes p → ⊥) → status ≡ REFUSED
-  refused ends name bytes infer e is short none = let a = source ends is name bytes infer e in source_refused bytes status a.0 a.1 short none
+  pub refused : Ended → (name bytes : Bytes) → IsInfer words name → held name ≡ Held bytes → IsAnswered status → length bytes ≤ SOURCE_BYTES → (status ≡ REFUSED) ↔ (IsAnalysed bytes → ⊥)
+  refused ends name bytes infer e is short = let a = source ends is name bytes infer e in source_refused bytes status a.0 a.1 short
 
   pub store : Ended → status ≡ STORE_FAILED → LacksFile words held store_before store_now
   store (Answered a) e = absurd ((answers_is_answered words held status a.text a.answers).0 e)
@@ -83,14 +83,14 @@ module _ (words : List Bytes) (held : Bytes → Holding) (old new : Option Bytes
   silent (CutOff s cut) (inr e) = absurd (omega arith)
   silent (Starved s same) e = same
 
-  pub complete_status : Ended → (name bytes : Bytes) → IsInfer words name → held name ≡ Held bytes → length bytes ≤ SOURCE_BYTES →
-      (Rose store_before store_now → ⊥) → (Rose sink_before sink_now → ⊥) → IsComplete bytes status
-  complete_status (Answered a) name bytes infer e short store_kept sink_kept =
-      source_is_complete bytes status a.text (file_of_held (held name) bytes status a.text e (infer_answers words held status a.text name infer a.answers)) short
-  complete_status (Unread s lacks same) name bytes infer e short store_kept sink_kept =
+  pub complete : Ended → (name bytes : Bytes) → IsInfer words name → held name ≡ Held bytes → length bytes ≤ SOURCE_BYTES → IsAnalysed bytes →
+      (Rose store_before store_now → ⊥) → (Rose sink_before sink_now → ⊥) → (status ≡ DONE) ⊎ (status ≡ NO_MEMORY)
+  complete (Answered a) name bytes infer e short analysed store_kept sink_kept =
+      inl (source_is_done bytes status a.text (file_of_held (held name) bytes status a.text e (infer_answers words held status a.text name infer a.answers)) short analysed)
+  complete (Unread s lacks same) name bytes infer e short analysed store_kept sink_kept =
       absurd (elim lacks.lost [
         | inl rose ↦ store_kept rose
         | inr nowhere ↦ let there = subst (λ (z : Bytes). held z ≡ Nothing) (same_name words name lacks.name infer lacks.named) nowhere in cc
       ])
-  complete_status (CutOff s cut) name bytes infer e short store_kept sink_kept = absurd (sink_kept cut.cause)
-  complete_status (Starved s same) name bytes infer e short store_kept sink_kept = IsStarved s
+  complete (CutOff s cut) name bytes infer e short analysed store_kept sink_kept = absurd (sink_kept cut.cause)
+  complete (Starved s same) name bytes infer e short analysed store_kept sink_kept = inr s

@@ -9,7 +9,7 @@ use Rattle.pc_syntax.specs.Spelling.{Spells}
 use Rattle.pc_app.specs.declared.answer.Answer.{Answer}
 use Rattle.pc_app.specs.declared.limits.TheConstants.{SOURCE_BYTES}
 use Rattle.pc_app.specs.Answers.{SourceAnswers, ProgramAnswers, FileAnswers}
-use Rattle.pc_app.specs.Answers.SourceAnswers.{TooLong, Faulty, Spelled}
+use Rattle.pc_app.specs.Answers.SourceAnswers.{IsTooLong, IsFaulty, IsSpelled}
 
 -- a front that is short enough is all of the bytes
 whole : (bytes taken : Bytes) → taken ≡ take (SOURCE_BYTES + 1) bytes → length taken ≤ SOURCE_BYTES → taken ≡ bytes
@@ -20,15 +20,15 @@ whole bytes taken e short =
 
 -- bytes that are answered as a front of others that was taken, where it is all of them or both are too long
 front_answers : (bytes taken : Bytes) (status : ℕ) (text : Bytes) → taken ≡ take (SOURCE_BYTES + 1) bytes → SourceAnswers taken status text → SourceAnswers bytes status text
-front_answers bytes taken status text e (TooLong long s t) =
+front_answers bytes taken status text e (IsTooLong long s t) =
     let size = ap length e ∙ length-take (SOURCE_BYTES + 1) bytes in
-    TooLong (omega arith) s t
-front_answers bytes taken status text e (Faulty short f faulty s t) =
+    IsTooLong (omega arith) s t
+front_answers bytes taken status text e (IsFaulty short f faulty s t) =
     let same = whole bytes taken e short in
-    Faulty (rw same at short) f faulty s t
-front_answers bytes taken status text e (Spelled short p spells answers) =
+    IsFaulty (rw same at short) f (rw same at faulty) s t
+front_answers bytes taken status text e (IsSpelled short p spells answers) =
     let same = whole bytes taken e short in
-    Spelled (rw same at short) p (rw same at spells) answers
+    IsSpelled (rw same at short) p (rw same at spells) answers
 
 pub file_answers : (held : Holding) (taken : Bytes) (status : ℕ) (text : Bytes) → TakenFrom held SOURCE_BYTES taken → SourceAnswers taken status text → FileAnswers held status text
 file_answers Untold taken status text from answers = record { bytes = taken; held_bytes = tt; answers = answers }
@@ -37,5 +37,5 @@ file_answers (Held bytes) taken status text from answers = record { bytes = byte
 
 -- a program is answered as the source is that spells it
 pub spelled_answers : (bytes : Bytes) (p : Program) → length bytes ≤ SOURCE_BYTES → Spells bytes p → (r : Result Answer NoMemory) → IfOk r (λ a. ProgramAnswers p a.status a.text) → IfOk r (λ a. SourceAnswers bytes a.status a.text)
-spelled_answers bytes p short spells (Ok a) answers = Spelled short p spells answers
+spelled_answers bytes p short spells (Ok a) answers = IsSpelled short p spells answers
 spelled_answers bytes p short spells (Err e) answers = tt

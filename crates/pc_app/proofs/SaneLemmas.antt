@@ -5,30 +5,24 @@ use Rattle.std.specs.List.{list_all}
 use Rattle.std.proofs.lemmas.Bool.Decides.{nat_tests}
 use Rattle.pc_rows.specs.Linear.{Linear, is_in_range, negation}
 use Rattle.pc_rows.specs.declared.row.TheConstants.{VARIABLES}
-use Rattle.pc_syntax.specs.declared.limits.TheConstants.{COMPARISONS}
+use Rattle.pc_grammar.specs.declared.limits.TheConstants.{COMPARISONS}
 use Rattle.pc_syntax.specs.declared.tree.Compare.{Compare}
 use Rattle.pc_syntax.specs.declared.tree.Stmt.{Stmt, Stmt-F, out-Stmt, fold-Stmt, map-Stmt, fold_out-Stmt}
 use Rattle.pc_syntax.specs.declared.tree.Stmt.TheOpen as stmt
 use Rattle.pc_syntax.specs.Forms.{form, is_affine, is_unequal, has_rows, rows_of, rows_all, row_fits}
 use Rattle.pc_syntax.specs.Forms as forms
-use Rattle.pc_syntax.specs.Sane.{sane_expr, names_below, sane_compare, sane_all, sane_choice, sane_right, sane_step, sane_stmt, sane_stmts}
+use Rattle.pc_syntax.specs.Sane.{has_sane_rows, sane_expr, names_below, sane_compare, sane_all, sane_choice, sane_right, sane_step, sane_stmt, sane_stmts}
 use Rattle.pc_syntax.proofs.Results.{and_is, and_of}
 use Rattle.pc_syntax.proofs.FormLemmas.{forms_are_right}
 use Rattle.pc_syntax.proofs.RowLemmas.{conjunctions_are_rows}
 use Rattle.pc_app.specs.Line.{is_plain, is_line, StepMeant, LineMeant}
-use Rattle.pc_app.specs.Ready.{is_ready_compare, is_ready_step, are_ready}
+use Rattle.pc_app.specs.Ready.{is_ready_step, are_ready}
 
 below_is : (a b : ℕ) → nat_lt a b ≡ true → a < b
 below_is a b h = grind (arith, nat_tests)
 
 below_test : (a b : ℕ) → a < b → nat_lt a b ≡ true
 below_test a b h = grind (arith, nat_tests)
-
-rows_in_range : (rows : List Linear) → list_all row_fits rows ≡ true → list_all is_in_range rows ≡ true
-rows_in_range [] h = refl
-rows_in_range (r ∷ rows) h =
-    let parts = and_is (row_fits r) (list_all row_fits rows) h in
-    and_of (is_in_range r) (list_all is_in_range rows) (and_is (is_in_range r) (is_in_range (negation r)) parts.0).0 (rows_in_range rows parts.1)
 
 -- a comparison that is kept has rows
 kept_rows : (n : ℕ) (c : Compare) → sane_compare n c ≡ true → has_rows c ≡ true
@@ -37,17 +31,17 @@ kept_rows n c h =
     let right = and_is (sane_expr n c.right) (list_all row_fits (rows_of c)) left.1 in
     and_of (is_affine c.left) (is_affine c.right) (and_is (is_affine c.left) (names_below n c.left) left.0).0 (and_is (is_affine c.right) (names_below n c.right) right.0).0
 
-kept_range : (n : ℕ) (c : Compare) → sane_compare n c ≡ true → list_all is_in_range (rows_of c) ≡ true
-kept_range n c h =
+kept_sane : (n : ℕ) (c : Compare) → sane_compare n c ≡ true → has_sane_rows c ≡ true
+kept_sane n c h =
     let left = and_is (sane_expr n c.left) (sane_expr n c.right && list_all row_fits (rows_of c)) h in
-    rows_in_range (rows_of c) (and_is (sane_expr n c.right) (list_all row_fits (rows_of c)) left.1).1
+    and_of (has_rows c) (list_all row_fits (rows_of c)) (kept_rows n c h) (and_is (sane_expr n c.right) (list_all row_fits (rows_of c)) left.1).1
 
-compares_ready : (n : ℕ) (cs : List Compare) → list_all (λ c. not (is_unequal c.op) && sane_compare n c) cs ≡ true → list_all is_ready_compare cs ≡ true
-compares_ready n [] h = refl
-compares_ready n (c ∷ cs) h =
+compares_sane : (n : ℕ) (cs : List Compare) → list_all (λ c. not (is_unequal c.op) && sane_compare n c) cs ≡ true → list_all has_sane_rows cs ≡ true
+compares_sane n [] h = refl
+compares_sane n (c ∷ cs) h =
     let parts = and_is (not (is_unequal c.op) && sane_compare n c) (list_all (λ c. not (is_unequal c.op) && sane_compare n c) cs) h in
     let kept = (and_is (not (is_unequal c.op)) (sane_compare n c) parts.0).1 in
-    and_of (is_ready_compare c) (list_all is_ready_compare cs) (and_of (has_rows c) (list_all is_in_range (rows_of c)) (kept_rows n c kept) (kept_range n c kept)) (compares_ready n cs parts.1)
+    and_of (has_sane_rows c) (list_all has_sane_rows cs) (kept_sane n c kept) (compares_sane n cs parts.1)
 
 compares_plain : (n : ℕ) (cs : List Compare) → list_all (λ c. not (is_unequal c.op) && sane_compare n c) cs ≡ true → list_all forms.is_plain cs ≡ true
 compares_plain n [] h = refl
@@ -56,10 +50,10 @@ compares_plain n (c ∷ cs) h =
     let kept = and_is (not (is_unequal c.op)) (sane_compare n c) parts.0 in
     and_of (forms.is_plain c) (list_all forms.is_plain cs) (and_of (not (is_unequal c.op)) (has_rows c) kept.0 (kept_rows n c kept.1)) (compares_plain n cs parts.1)
 
--- the comparisons of an assertion are kept, each
-conjunction_each : (n : ℕ) (cs : List Compare) → sane_all n cs ≡ true → list_all (λ c. not (is_unequal c.op) && sane_compare n c) cs ≡ true
+-- the comparisons of an assertion are few, and kept, each
+conjunction_each : (n : ℕ) (cs : List Compare) → sane_all n cs ≡ true → (nat_le (length cs) COMPARISONS ≡ true) × (list_all (λ c. not (is_unequal c.op) && sane_compare n c) cs ≡ true)
 conjunction_each n [] h = absurd (cc)
-conjunction_each n (c ∷ cs) h = (and_is (nat_le (length (c ∷ cs)) COMPARISONS) (list_all (λ c. not (is_unequal c.op) && sane_compare n c) (c ∷ cs)) h).1
+conjunction_each n (c ∷ cs) h = and_is (nat_le (length (c ∷ cs)) COMPARISONS) (list_all (λ c. not (is_unequal c.op) && sane_compare n c) (c ∷ cs)) h
 
 step_ready : (n : ℕ) (y : Stmt-F Stmt) → n ≤ VARIABLES → is_plain y ≡ true → sane_step n (map-Stmt Stmt Bool (fold-Stmt Bool (sane_step n)) y) ≡ true → is_ready_step y ≡ true
 step_ready n (stmt.Set p v r) few plain kept =
@@ -69,7 +63,9 @@ step_ready n (stmt.Set p v r) few plain kept =
     and_of (nat_lt v VARIABLES) (is_affine r.expr) (below_test v VARIABLES (omega arith)) (and_is (is_affine r.expr) (names_below n r.expr) right.0).0
 step_ready n (stmt.If p t xs ys) few plain kept = absurd (cc)
 step_ready n (stmt.While p t tried xs) few plain kept = absurd (cc)
-step_ready n (stmt.Assert p cs) few plain kept = compares_ready n cs (conjunction_each n cs kept)
+step_ready n (stmt.Assert p cs) few plain kept =
+    let each = conjunction_each n cs kept in
+    and_of (nat_le (length cs) COMPARISONS) (list_all has_sane_rows cs) each.0 (compares_sane n cs each.1)
 step_ready n (stmt.Assume p cs) few plain kept = absurd (cc)
 
 step_meant : (n : ℕ) (y : Stmt-F Stmt) → is_plain y ≡ true → sane_step n (map-Stmt Stmt Bool (fold-Stmt Bool (sane_step n)) y) ≡ true → StepMeant n y
@@ -79,7 +75,7 @@ step_meant n (stmt.Set p v r) plain kept =
     (below_is v n parts.0, (forms_are_right r.expr (and_is (is_affine r.expr) (names_below n r.expr) right.0).0).form.worth)
 step_meant n (stmt.If p t xs ys) plain kept = absurd (cc)
 step_meant n (stmt.While p t tried xs) plain kept = absurd (cc)
-step_meant n (stmt.Assert p cs) plain kept = λ s. let h = conjunctions_are_rows cs s (compares_plain n cs (conjunction_each n cs kept)) in (h.1, h.0)
+step_meant n (stmt.Assert p cs) plain kept = λ s. let h = conjunctions_are_rows cs s (compares_plain n cs (conjunction_each n cs kept).1) in (h.1, h.0)
 step_meant n (stmt.Assume p cs) plain kept = absurd (cc)
 
 -- a statement that is kept, by its kind

@@ -3,6 +3,7 @@ pub mod Tame
 pub mod Words
 pub mod Texts
 pub mod Inferred
+pub mod Built
 pub mod Answers
 pub mod Silences
 pub mod Promises

@@ -11,7 +11,7 @@ use Rattle.pc_app.specs.declared.status.TheConstants.{DONE, REFUSED, STORE_FAILE
 use Rattle.pc_app.specs.Line.{is_line}
 use Rattle.pc_app.specs.Tame.{IsTame}
 use Rattle.pc_app.specs.Inferred.{IsCondition, Suffices, IsNeeded}
-use Rattle.pc_app.specs.Answers.{Answers, IsFaulty}
+use Rattle.pc_app.specs.Answers.{Answers}
 use Rattle.pc_app.specs.Silences.{LacksFile}
 
 -- the bytes of a source spell a program; what was appended is the text of a condition over its parameters; every entry state that meets it is safe
@@ -51,14 +51,6 @@ pub record IsCutOff (words : List Bytes) (held : Bytes → Holding) (old new : O
   pub answers : Answers words held status text
   pub front : FrontAppended old new text
   pub cause : Rose before now
-
--- the status of a source that is held and short enough, where nothing outside fails: done, or refused for a fault that the reader
--- tells (of which texts it does so is not said yet), or since the program is no line of assertions and assignments
-pub data IsComplete (bytes : Bytes) (status : ℕ) : Type 0 where
-  Done : status ≡ DONE → IsComplete bytes status
-  Starved : status ≡ NO_MEMORY → IsComplete bytes status
-  Faulty : status ≡ REFUSED → (f : SourceFault) → IsFaulty bytes f → IsComplete bytes status
-  NoLine : status ≡ REFUSED → (p : Program) → Spells bytes p → is_line p.body ≡ false → IsComplete bytes status
 
 -- how a call ends
 pub data Ends (words : List Bytes) (held : Bytes → Holding) (old new : Option Bytes) (store_before store_now sink_before sink_now status : ℕ) : Type 0 where

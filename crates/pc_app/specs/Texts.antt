@@ -1,5 +1,5 @@
 -- The lines that tell what kept a command from its output.
-use Rattle.std.specs.Prelude.{◌++◌, ℤ, pos, codes}
+use Rattle.std.specs.Prelude.{◌++◌, ℤ, pos, [], codes}
 use Rattle.pc_text.specs.declared.place.Place.{Place}
 use Rattle.pc_text.specs.Numerals.{numeral}
 use Rattle.pc_text.specs.Bytes.{Bytes}
@@ -20,7 +20,7 @@ place_text p = numeral (pos p.line) ++ codes ":" ++ numeral (pos p.column)
 abbrev pub also : ℤ → Bytes
 also n = codes " " ++ numeral n
 
--- what is told of a source: a code and a place, and a number or two where the fault has them
+-- what is told of a faulty source: a code and a place, and a number or two where the fault has them (want of memory is no fault of it)
 abbrev pub fault_text : SourceFault → Bytes
 fault_text (fault.BadByte p b) = codes "bad-byte " ++ place_text p ++ also (pos b)
 fault_text (fault.LiteralTooBig p) = codes "literal-too-big " ++ place_text p
@@ -36,9 +36,12 @@ fault_text (fault.FormPast p) = codes "form-past " ++ place_text p
 fault_text (fault.Unequal p) = codes "unequal " ++ place_text p
 fault_text (fault.EmptyInterval p lo hi) = codes "empty-interval " ++ place_text p ++ also lo ++ also hi
 fault_text (fault.TooManyEdges p) = codes "too-many-edges " ++ place_text p
-fault_text fault.NotBuilt = codes "not-built"
-fault_text fault.NoMemory = codes "no-memory"
+fault_text fault.NoMemory = []
 
 -- the line of a refused source
 abbrev pub refused : Bytes → Bytes
 refused why = codes "source: " ++ why ++ codes "\n"
+
+-- what is told of a program that is not analysed yet, with the place of the first statement that keeps it from being
+abbrev pub not_built : Place → Bytes
+not_built p = codes "not-built " ++ place_text p

@@ -5,8 +5,8 @@ ghost use Rattle.pc_app.specs.Answers.{Answers, CommandAnswers, FileAnswers, Sou
 ghost use Rattle.pc_app.specs.Silences.{IsSilent, CommandIsSilent, FileIsSilent};
 
 use crate::limits::SOURCE_BYTES;
-use crate::line::{alternatives_of, is_line};
-use crate::refusal::refusal_of;
+use crate::line::{alternatives_of, first_not_built};
+use crate::refusal::{refusal_at, refusal_of};
 use crate::status::{DONE, REFUSED, TOO_LONG, USAGE};
 use crate::words::{Command, command_of};
 use pc_cert::condition;
@@ -106,8 +106,11 @@ fn answer_to_source(alloc: Global, bytes: &[u8]) -> Result<Answer, NoMemory>
 fn answer_to_program(alloc: Global, program: &Program) -> Result<Answer, NoMemory>
     ensures { IfOk result (λ a. ProgramAnswers program.now a.status a.text) }
 {
-    if !is_line(program.body.as_slice()) {
-        return one_line(alloc, REFUSED, b"source: not-built\n");
+    if let Some(place) = first_not_built(program.body.as_slice()) {
+        return Ok(Answer {
+            status: REFUSED,
+            text: refusal_at(alloc, place)?,
+        });
     }
     let alternatives = alternatives_of(alloc, program)?;
     Ok(Answer {

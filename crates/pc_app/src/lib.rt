@@ -2,7 +2,6 @@
 #![tactic(auto)]
 
 mod answer;
-mod comparison;
 mod limits;
 mod line;
 mod need;

@@ -4,25 +4,26 @@ ghost use Rattle.std.specs.Prelude.{◌≡◌, ◌∷◌, [], true, IfOk, All, l
 ghost use Rattle.pc_cert.specs.Conditions.{IsWithin};
 ghost use Rattle.pc_syntax.specs.declared.tree.Stmt.{out-Stmt};
 ghost use Rattle.pc_app.specs.Line.{is_line, is_plain};
+ghost use Rattle.pc_app.specs.Built.{stmt_place, first_not_built};
 ghost use Rattle.pc_app.specs.Inferred.{Inferred};
 
 use crate::need::{NeedFault, entry_rows, needed};
 use pc_rows::Rows;
 use pc_syntax::{Program, Stmt};
-use pc_text::NoMemory;
+use pc_text::{NoMemory, Place};
 use sqlite_items::Items;
 use std::alloc::Global;
 
-/// Whether all statements are assertions, or assignments without a choice.
-pub(crate) fn is_line(body: &[Stmt]) -> bool
-    ensures { result ≡ is_line body.now }
+/// The place of the first statement that is no assertion, and no assignment without a choice.
+pub(crate) fn first_not_built(body: &[Stmt]) -> Option<Place>
+    ensures { result ≡ first_not_built body.now }
 {
     for stmt in body {
         if !is_plain(stmt) {
-            return false;
+            return Some(place_of(stmt));
         }
     }
-    true
+    None
 }
 
 /// Whether a statement is an assertion, or an assignment without a choice.
@@ -33,6 +34,19 @@ fn is_plain(stmt: &Stmt) -> bool
         Stmt::Set { right, .. } => right.choice.is_none(),
         Stmt::Assert { .. } => true,
         Stmt::If { .. } | Stmt::While { .. } | Stmt::Assume { .. } => false,
+    }
+}
+
+/// The place of a statement.
+fn place_of(stmt: &Stmt) -> Place
+    ensures { result ≡ stmt_place (out-Stmt stmt.now) }
+{
+    match stmt {
+        Stmt::Set { place, .. }
+        | Stmt::If { place, .. }
+        | Stmt::While { place, .. }
+        | Stmt::Assert { place, .. }
+        | Stmt::Assume { place, .. } => *place,
     }
 }
 

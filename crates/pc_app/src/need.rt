@@ -9,13 +9,14 @@ ghost use Rattle.pc_rows.specs.declared.rows.TheConstants.{ROWS};
 ghost use Rattle.pc_rows.specs.declared.row.TheConstants.{VARIABLES};
 ghost use Rattle.pc_syntax.specs.declared.tree.Stmt.{out-Stmt};
 ghost use Rattle.pc_syntax.specs.Forms.{is_affine, form, rows_all};
+ghost use Rattle.pc_syntax.specs.Sane.{has_sane_rows};
+ghost use Rattle.pc_grammar.specs.declared.limits.TheConstants.{COMPARISONS};
 ghost use Rattle.pc_app.specs.Line.{is_plain, is_line, carried_back, need_over, need, StepFits, LineFits};
-ghost use Rattle.pc_app.specs.Ready.{is_ready_compare, is_ready_step, are_ready};
+ghost use Rattle.pc_app.specs.Ready.{is_ready_step, are_ready};
 ghost use Rattle.pc_app.specs.Needed.{IsNeed, at_entry};
 
-use crate::comparison::{conjunction_rows, form};
 use pc_rows::{Row, Rows, RowsFault, join, substitute};
-use pc_syntax::{Compare, Expr, Stmt};
+use pc_syntax::{Compare, Expr, Stmt, form_of, rows_of};
 use pc_text::NoMemory;
 use std::alloc::Global;
 
@@ -87,7 +88,7 @@ fn before_set(alloc: Global, var: u32, e: &Expr, rows: &Rows) -> Result<Rows, Ne
         (AllByRecursion (λ row. SubstituteFits row var (form e.now) (pos 0) (pos 0)) rows.now × (length (joined [] (carried_back var (form e.now) rows.now)) ≤ ROWS))
         (joined [] (carried_back var (form e.now) rows.now)) result }
 {
-    let carried = carried_rows(alloc, var, &form(alloc, e), rows)?;
+    let carried = carried_rows(alloc, var, &form_of(alloc, e), rows)?;
     Ok(join(&Rows::new(alloc), &carried)?)
 }
 
@@ -108,11 +109,22 @@ fn carried_rows(alloc: Global, var: u32, form: &Row, rows: &Rows) -> Result<Rows
 
 /// Over an assertion its own rows come first, and then the rows after it.
 fn before_assert(alloc: Global, all: &[Compare], rows: &Rows) -> Result<Rows, NeedFault>
-    requires { list_all is_ready_compare all.now ≡ true }
+    requires few { length all.now ≤ COMPARISONS }
+    requires sane { list_all has_sane_rows all.now ≡ true }
     ensures { IsNeed (length (joined [] (rows_all all.now ++ rows.now)) ≤ ROWS) (joined [] (rows_all all.now ++ rows.now)) result }
 {
     let own = conjunction_rows(alloc, all)?;
     Ok(join(&own, rows)?)
+}
+
+/// The rows of a conjunction that are not covered by those before them.
+fn conjunction_rows(alloc: Global, all: &[Compare]) -> Result<Rows, NeedFault>
+    requires few { length all.now ≤ COMPARISONS }
+    requires sane { list_all has_sane_rows all.now ≡ true }
+    ensures { IsNeed (length (joined [] (rows_all all.now)) ≤ ROWS) (joined [] (rows_all all.now)) result }
+{
+    let rows = rows_of(alloc, all)?;
+    Ok(join(&Rows::new(alloc), &rows)?)
 }
 
 /// The rows over the parameters that are left at the entry, where the locals are 0.

@@ -1,7 +1,7 @@
 //! The line that tells why a source is refused.
 
-ghost use Rattle.std.specs.Prelude.{◌≡◌, ◌++◌, OnOk, IfOk};
-ghost use Rattle.pc_app.specs.Texts.{place_text, also, fault_text, refused};
+ghost use Rattle.std.specs.Prelude.{◌≡◌, ◌≢◌, ◌++◌, OnOk, IfOk};
+ghost use Rattle.pc_app.specs.Texts.{place_text, also, fault_text, not_built, refused};
 
 use pc_syntax::SourceFault;
 use pc_text::{NoMemory, Place, Text};
@@ -9,6 +9,7 @@ use std::alloc::Global;
 
 /// The line of a source with this fault.
 pub(crate) fn refusal_of(alloc: Global, fault: SourceFault) -> Result<Text, NoMemory>
+    requires { fault ≢ SourceFault.NoMemory }
     ensures { IfOk result (λ t. t ≡ refused (fault_text fault)) }
 {
     let mut text = Text::new(alloc);
@@ -18,8 +19,20 @@ pub(crate) fn refusal_of(alloc: Global, fault: SourceFault) -> Result<Text, NoMe
     Ok(text)
 }
 
+/// The line of a program that is not analysed yet, since it has such a statement at this place.
+pub(crate) fn refusal_at(alloc: Global, place: Place) -> Result<Text, NoMemory>
+    ensures { IfOk result (λ t. t ≡ refused (not_built place)) }
+{
+    let mut text = Text::new(alloc);
+    text.push_all(b"source: ")?;
+    push_at(&mut text, b"not-built ", place)?;
+    text.push(b'\n')?;
+    Ok(text)
+}
+
 /// Adds the code of a fault, its place and its numbers.
 fn push_fault(text: &mut Text, fault: SourceFault) -> Result<(), NoMemory>
+    requires { fault ≢ SourceFault.NoMemory }
     ensures { OnOk result (text.new ≡ text.old ++ fault_text fault) }
 {
     match fault {
@@ -44,8 +57,7 @@ fn push_fault(text: &mut Text, fault: SourceFault) -> Result<(), NoMemory>
             push_also(text, high)
         }
         SourceFault::TooManyEdges(place) => push_at(text, b"too-many-edges ", place),
-        SourceFault::NotBuilt => text.push_all(b"not-built"),
-        SourceFault::NoMemory => text.push_all(b"no-memory"),
+        SourceFault::NoMemory => unreachable!(),
     }
 }
 

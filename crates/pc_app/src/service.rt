@@ -2,11 +2,10 @@
 
 ghost use Rattle.std.specs.Prelude.{◌≡◌, ◌≢◌, ◌≤◌, ◌<◌, ◌↔◌, ◌⊎◌, ℕ, List, map, string_bytes, length};
 ghost use Rattle.pc_ports.specs.Outside.{Held, Rose};
-ghost use Rattle.pc_syntax.specs.declared.program.Program.{Program};
-ghost use Rattle.pc_syntax.specs.Spelling.{Spells};
+ghost use Rattle.pc_app.specs.Built.{IsAnalysed};
 ghost use Rattle.pc_app.specs.Words.{IsInfer, IsPlain};
 ghost use Rattle.pc_app.specs.Silences.{LacksFile};
-ghost use Rattle.pc_app.specs.Promises.{OfBytes, PrintedSuffices, PrintedIsExact, IsAnswered, HasAnswered, IsCutOff, IsComplete, Ends};
+ghost use Rattle.pc_app.specs.Promises.{OfBytes, PrintedSuffices, PrintedIsExact, IsAnswered, HasAnswered, IsCutOff, Ends};
 
 use crate::answer::{Silence, answer_to_words};
 use crate::limits::SOURCE_BYTES;
@@ -33,17 +32,18 @@ pub fn serve<S: Store, K: Sink>(alloc: Global, words: &[String], store: &mut S, 
     // Too long exactly where more bytes are held than the limit.
     ensures too_long { (name bytes : List ℕ) → IsInfer (map string_bytes words.now) name → S.holding store.old name ≡ Held bytes →
         IsAnswered result → (result ≡ TOO_LONG) ↔ (SOURCE_BYTES < length bytes) }
-    // Refused where the bytes spell no program.
+    // Refused exactly where the bytes spell no program that is analysed.
     ensures refused { (name bytes : List ℕ) → IsInfer (map string_bytes words.now) name → S.holding store.old name ≡ Held bytes →
-        IsAnswered result → length bytes ≤ SOURCE_BYTES → ((p : Program) → Spells bytes p → ⊥) → result ≡ REFUSED }
+        IsAnswered result → length bytes ≤ SOURCE_BYTES → (result ≡ REFUSED) ↔ (IsAnalysed bytes → ⊥) }
     // The faults outside, and want of memory.
     ensures store { result ≡ STORE_FAILED → LacksFile (map string_bytes words.now) (S.holding store.old) (S.faults store.old) (S.faults store.new) }
     ensures sink { result ≡ SINK_FAILED → IsCutOff (map string_bytes words.now) (S.holding store.old) (K.written out.old) (K.written out.new) (K.faults out.old) (K.faults out.new) }
     ensures silent { (result ≡ STORE_FAILED) ⊎ (result ≡ NO_MEMORY) → K.written out.new ≡ K.written out.old }
-    // With no fault outside, a source that is held and short enough is answered.
-    ensures complete { (name bytes : List ℕ) → IsInfer (map string_bytes words.now) name → S.holding store.old name ≡ Held bytes → length bytes ≤ SOURCE_BYTES →
+    // With no fault outside, a source that is held, short enough and analysed is done, but for want of memory.
+    ensures complete { (name bytes : List ℕ) → IsInfer (map string_bytes words.now) name → S.holding store.old name ≡ Held bytes →
+        length bytes ≤ SOURCE_BYTES → IsAnalysed bytes →
         (Rose (S.faults store.old) (S.faults store.new) → ⊥) → (Rose (K.faults out.old) (K.faults out.new) → ⊥) →
-        IsComplete bytes result }
+        (result ≡ DONE) ⊎ (result ≡ NO_MEMORY) }
     ensures kept { (name : List ℕ) → S.holding store.new name ≡ S.holding store.old name }
 {
     respond(alloc, words, store, out)

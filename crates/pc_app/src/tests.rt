@@ -103,7 +103,7 @@ const REFUSALS: [(&str, &str); 10] = [
         "entry (a, b, c, d, e, f, g, h, i, j, k, l, m, n, o, p, q) { }",
         "too-many-names 1:56",
     ),
-    ("entry (x) { if (*) { } }", "not-built"),
+    ("entry (x) { if (*) { } }", "not-built 1:13"),
 ];
 
 #[test]

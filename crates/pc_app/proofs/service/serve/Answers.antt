@@ -29,4 +29,4 @@ pub returns-clause-silent : goal.returns-clause-silent
 returns-clause-silent g c = ends.silent _ _ _ _ _ _ _ _ _ c.respond.ensures.ends
 
 pub returns-clause-complete : goal.returns-clause-complete
-returns-clause-complete g c = ends.complete_status _ _ _ _ _ _ _ _ _ c.respond.ensures.ends
+returns-clause-complete g c = ends.complete _ _ _ _ _ _ _ _ _ c.respond.ensures.ends
