@@ -17,3 +17,4 @@ pub mod Shapes
 pub mod Counts
 pub mod Graphs
 pub mod Straights
+pub mod Programs
