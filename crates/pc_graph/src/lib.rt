@@ -22,3 +22,6 @@ pub use laws::{
 pub use lowering::lower;
 pub use point::PointInfo;
 pub use what::{TEST_ROWS, What};
+
+#[cfg(test)]
+mod tests;
