@@ -1,5 +1,5 @@
 pub mod Lists
-pub mod Tests
+pub mod TestWays
 pub mod Cases
 pub mod Unrolled
 pub mod Tied
