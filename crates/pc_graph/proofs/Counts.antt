@@ -68,7 +68,7 @@ list_counted (x ∷ ss) all p n =
     let a = all.0 p n in
     let b = list_counted ss all.1 (rule x p n).last (rule x p n).next in
     length-append (rule x p n).edges (rules ss (rule x p n).last (rule x p n).next).edges ∙ ap (λ k. k + length (rules ss (rule x p n).last (rule x p n).next).edges) a ∙ ap (λ k. edges x + k) b ∙
-        sym (sum_by-cons (λ z. z) (edges x) (map edges ss))
+    sym (sum_by-cons (λ z. z) (edges x) (map edges ss))
 
 split_counted : (place : Place) (t : Condition) (xs ys : List Stmt) (j k : ℕ) → CountedBy j (rules xs) → CountedBy k (rules ys) →
     CountedBy (test_edges t + 2 + j + k) (rule_step (stmt.If place t (map rule xs) (map rule ys)))
@@ -83,8 +83,13 @@ split_counted place t xs ys j k hx hy p n =
     let e1 = tests-length p n (ways t true) in
     let e2 = tests-length p a.next (ways t false) in
     let c = ways_counted t in
-    omega (arith, length-append trues (a.edges ++ (falses ++ (b.edges ++ ends))), length-append a.edges (falses ++ (b.edges ++ ends)), length-append falses (b.edges ++ ends),
-        length-append b.edges ends)
+    omega (
+      arith,
+      length-append trues (a.edges ++ (falses ++ (b.edges ++ ends))),
+      length-append a.edges (falses ++ (b.edges ++ ends)),
+      length-append falses (b.edges ++ ends),
+      length-append b.edges ends,
+    )
 
 loop_counted : (place : Place) (t : Condition) (tried : List Compare) (xs : List Stmt) (j : ℕ) → CountedBy j (rules xs) →
     CountedBy (test_edges t + 1 + j) (rule_step (stmt.While place t tried (map rule xs)))
@@ -102,9 +107,9 @@ counted : (x : Stmt) → CountedOne x
 counted x = by_cases CountedOne
     (λ place v r. counted_by _ 1 _ (one place (assigned v r)) (fold-roll-Stmt ℕ edges_step (stmt.Set place v r)) (fold-roll-Stmt Rule rule_step (stmt.Set place v r)) (λ p n. refl))
     (λ place t xs ys hx hy. counted_by _ (test_edges t + 2 + sum (map edges xs) + sum (map edges ys)) _ (rule_step (stmt.If place t (map rule xs) (map rule ys)))
-        (fold-roll-Stmt ℕ edges_step (stmt.If place t xs ys)) (rule-if place t xs ys) (split_counted place t xs ys (sum (map edges xs)) (sum (map edges ys)) (list_counted xs hx) (list_counted ys hy)))
+    (fold-roll-Stmt ℕ edges_step (stmt.If place t xs ys)) (rule-if place t xs ys) (split_counted place t xs ys (sum (map edges xs)) (sum (map edges ys)) (list_counted xs hx) (list_counted ys hy)))
     (λ place t tried xs hx. counted_by _ (test_edges t + 1 + sum (map edges xs)) _ (rule_step (stmt.While place t tried (map rule xs)))
-        (fold-roll-Stmt ℕ edges_step (stmt.While place t tried xs)) (rule-while place t tried xs) (loop_counted place t tried xs (sum (map edges xs)) (list_counted xs hx)))
+    (fold-roll-Stmt ℕ edges_step (stmt.While place t tried xs)) (rule-while place t tried xs) (loop_counted place t tried xs (sum (map edges xs)) (list_counted xs hx)))
     (λ place cs. counted_by _ 1 _ (one place (Check (rows_all cs))) (fold-roll-Stmt ℕ edges_step (stmt.Assert place cs)) (fold-roll-Stmt Rule rule_step (stmt.Assert place cs)) (λ p n. refl))
     (λ place cs. counted_by _ 1 _ (one place (Test (rows_all cs))) (fold-roll-Stmt ℕ edges_step (stmt.Assume place cs)) (fold-roll-Stmt Rule rule_step (stmt.Assume place cs)) (λ p n. refl))
     x

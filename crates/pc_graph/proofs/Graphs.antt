@@ -104,7 +104,7 @@ graph_kept p =
       leads = (
         record { leaves = omega arith; reaches = omega arith; rises = inl (omega arith); over = k.params },
         each_more (IsUp (length p.names.names) a.next a.loops) (LeadsUp (graph p).points (graph p).variables) (λ e up. leads p a.next e long up) a.edges
-        (f.edges a.next a.loops (omega arith) (each_in a.loops)),
+            (f.edges a.next a.loops (omega arith) (each_in a.loops)),
       );
     }
 
@@ -141,9 +141,9 @@ graph_made p list d g params variables loops places points edges bodies e1 e2 e3
     let v = length p.names.names in
     let all = extended (entered p.place n) (rules p.body 1 2) in
     let whole : g ≡ all = made_by ∙ ap (λ (z : Drawn). extended z (rules list z.at z.next)) ed ∙ ap (λ (ss : List Stmt). extended (entered p.place params) (rules ss 1 2)) e1 ∙
-        ap (λ (k : ℕ). extended (entered p.place k) (rules p.body 1 2)) e2 in
+    ap (λ (k : ℕ). extended (entered p.place k) (rules p.body 1 2)) e2 in
     let ps : points ≡ (graph p).points =
     e4 ∙ ap (λ (z : List Loop). points_from z 0 places) (el ∙ ap (λ (z : Drawn). z.loops) whole) ∙ ap (λ (z : List Place). points_from all.loops 0 z) (ep ∙ ap (λ (z : Drawn). z.places) whole) in
     ap (λ (k : ℕ). flow_of k variables points edges bodies) e2 ∙ ap (λ (k : ℕ). flow_of n k points edges bodies) e3 ∙ ap (λ (z : List PointInfo). flow_of n v z edges bodies) ps ∙
-        ap (λ (z : List Arc). flow_of n v (graph p).points z bodies) (ee ∙ ap (λ (z : Drawn). z.edges) whole) ∙
-        ap (λ (z : List Bool). flow_of n v (graph p).points (graph p).edges z) (eb ∙ ap (λ (z : Drawn). z.bodies) whole)
+    ap (λ (z : List Arc). flow_of n v (graph p).points z bodies) (ee ∙ ap (λ (z : Drawn). z.edges) whole) ∙
+    ap (λ (z : List Bool). flow_of n v (graph p).points (graph p).edges z) (eb ∙ ap (λ (z : Drawn). z.bodies) whole)

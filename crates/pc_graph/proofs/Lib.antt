@@ -1,5 +1,5 @@
 pub mod Lists
-pub mod Tests
+pub mod TestWays
 pub mod Cases
 pub mod Unrolled
 pub mod Tied
@@ -17,3 +17,4 @@ pub mod Shapes
 pub mod Counts
 pub mod Graphs
 pub mod Straights
+pub mod Programs

@@ -19,7 +19,7 @@ use Rattle.pc_syntax.specs.declared.tree.Stmt.TheVariants.{If, While, Assert, As
 use Rattle.pc_syntax.specs.declared.tree.Stmt.TheOpen as stmt
 use Rattle.pc_syntax.proofs.Results.{and_is, and_of}
 use Rattle.pc_graph.specs.declared.what.TheConstants.{TEST_ROWS}
-use Rattle.pc_graph.proofs.Tests.{rows_found}
+use Rattle.pc_graph.proofs.TestWays.{rows_found}
 use Rattle.pc_graph.proofs.Unrolled.{sane-if, sane-while}
 
 -- ---- rows

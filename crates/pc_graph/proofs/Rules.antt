@@ -29,7 +29,7 @@ use Rattle.pc_graph.specs.Ways.{ways}
 use Rattle.pc_syntax.proofs.FormLemmas.{forms_are_right}
 use Rattle.pc_syntax.proofs.Results.{and_is}
 use Rattle.pc_graph.proofs.Lists.{each_left, each_right, each_join, each_more}
-use Rattle.pc_graph.proofs.Tests.{ways_sound, ways_complete, holds_meets, meets_holds}
+use Rattle.pc_graph.proofs.TestWays.{ways_sound, ways_complete, holds_meets, meets_holds}
 use Rattle.pc_graph.proofs.Tied.{Holds, ArcOk, Fired, Simulates, joins, Tied}
 use Rattle.pc_graph.proofs.Unrolled.{step-set, step-if, step-while, step-assert, step-assume, rule-if, rule-while, sane-if, sane-while, rests-if, rests-while, rests-set, rests-assert, rests-assume}
 use Rattle.pc_graph.proofs.Pieces.{holds_left, holds_right, fires_at, tests_ok, tests_fire, join_ok, join_skips, one_tied}

@@ -217,13 +217,25 @@ module _ (v : ℕ) (few : v ≤ VARIABLES) where
         last = omega arith;
         away = omega arith;
         points = omega (arith, length-append a.places (place ∷ (b.places ++ (place ∷ []))), length-append b.places (place ∷ []));
-        few = omega (arith, length-append (tests p n trues) (a.edges ++ (tests p a.next falses ++ (b.edges ++ ends))), length-append a.edges (tests p a.next falses ++ (b.edges ++ ends)),
-            length-append (tests p a.next falses) (b.edges ++ ends), length-append b.edges ends, test_has t);
-        bodies = omega (arith, length-append (tests p n trues) (a.edges ++ (tests p a.next falses ++ (b.edges ++ ends))), length-append a.edges (tests p a.next falses ++ (b.edges ++ ends)),
-            length-append (tests p a.next falses) (b.edges ++ ends), length-append b.edges ends,
-            length-append (all_alike false trues) (a.bodies ++ (all_alike false falses ++ (b.bodies ++ all_alike false ends))),
-            length-append a.bodies (all_alike false falses ++ (b.bodies ++ all_alike false ends)), length-append (all_alike false falses) (b.bodies ++ all_alike false ends),
-            length-append b.bodies (all_alike false ends));
+        few = omega (
+          arith,
+          length-append (tests p n trues) (a.edges ++ (tests p a.next falses ++ (b.edges ++ ends))),
+          length-append a.edges (tests p a.next falses ++ (b.edges ++ ends)),
+          length-append (tests p a.next falses) (b.edges ++ ends),
+          length-append b.edges ends,
+          test_has t,
+        );
+        bodies = omega (
+          arith,
+          length-append (tests p n trues) (a.edges ++ (tests p a.next falses ++ (b.edges ++ ends))),
+          length-append a.edges (tests p a.next falses ++ (b.edges ++ ends)),
+          length-append (tests p a.next falses) (b.edges ++ ends),
+          length-append b.edges ends,
+          length-append (all_alike false trues) (a.bodies ++ (all_alike false falses ++ (b.bodies ++ all_alike false ends))),
+          length-append a.bodies (all_alike false falses ++ (b.bodies ++ all_alike false ends)),
+          length-append (all_alike false falses) (b.bodies ++ all_alike false ends),
+          length-append b.bodies (all_alike false ends),
+        );
         heads = each_join (λ l. 0 < l.head) a.loops b.loops f.heads r.heads;
         edges = λ m loops le ins.
             each_join (IsUp v m loops) (tests p n trues) _ (tests_up m loops p n trues h (omega arith) (ways_few v t true ok.0))
@@ -258,8 +270,13 @@ module _ (v : ℕ) (few : v ≤ VARIABLES) where
         away = omega arith;
         points = omega (arith, length-append a.places (place ∷ []));
         few = omega (arith, length-append (tests p n trues) (a.edges ++ (back ∷ tests p a.next falses)), length-append a.edges (back ∷ tests p a.next falses), test_has t);
-        bodies = omega (arith, length-append (tests p n trues) (a.edges ++ (back ∷ tests p a.next falses)), length-append a.edges (back ∷ tests p a.next falses),
-            length-append (all_alike true trues) (a.bodies ++ (false ∷ all_alike false falses)), length-append a.bodies (false ∷ all_alike false falses));
+        bodies = omega (
+          arith,
+          length-append (tests p n trues) (a.edges ++ (back ∷ tests p a.next falses)),
+          length-append a.edges (back ∷ tests p a.next falses),
+          length-append (all_alike true trues) (a.bodies ++ (false ∷ all_alike false falses)),
+          length-append a.bodies (false ∷ all_alike false falses),
+        );
         heads = (pos_p, f.heads);
         edges = λ m loops le ins.
             each_join (IsUp v m loops) (tests p n trues) _ (tests_up m loops p n trues h (omega arith) (ways_few v t true ok.0))
@@ -272,17 +289,17 @@ module _ (v : ℕ) (few : v ≤ VARIABLES) where
   shaped : (x : Stmt) → ShapedOne x
   shaped x = by_cases ShapedOne
       (λ place u r. shaped_by _ (nat_lt u v && sane_right v r) _ (one place (assigned u r)) (fold-roll-Stmt Bool (sane_step v) (stmt.Set place u r)) (fold-roll-Stmt Rule rule_step (stmt.Set place u r))
-          (λ p n s pos_p h.
-          let ok = and_is (nat_lt u v) (sane_right v r) s in
-          one_shaped place (assigned u r) (below u v ok.0) (assigned_fits v u r few (below u v ok.0) ok.1) p n pos_p h))
+      (λ p n s pos_p h.
+      let ok = and_is (nat_lt u v) (sane_right v r) s in
+      one_shaped place (assigned u r) (below u v ok.0) (assigned_fits v u r few (below u v ok.0) ok.1) p n pos_p h))
       (λ place t xs ys hx hy. shaped_by _ (sane_test v t && (sane_stmts v xs && sane_stmts v ys)) _ (rule_step (stmt.If place t (map rule xs) (map rule ys)))
-          (sane-if v place t xs ys) (rule-if place t xs ys) (split_shaped place t xs ys (list_shaped xs hx) (list_shaped ys hy)))
+      (sane-if v place t xs ys) (rule-if place t xs ys) (split_shaped place t xs ys (list_shaped xs hx) (list_shaped ys hy)))
       (λ place t tried xs hx. shaped_by _ (sane_test v t && (sane_each v tried && sane_stmts v xs)) _ (rule_step (stmt.While place t tried (map rule xs)))
-          (sane-while v place t tried xs) (rule-while place t tried xs) (loop_shaped place t tried xs (list_shaped xs hx)))
+      (sane-while v place t tried xs) (rule-while place t tried xs) (loop_shaped place t tried xs (list_shaped xs hx)))
       (λ place cs. shaped_by _ (sane_all v cs) _ (one place (Check (rows_all cs))) (fold-roll-Stmt Bool (sane_step v) (stmt.Assert place cs)) (fold-roll-Stmt Rule rule_step (stmt.Assert place cs))
-          (λ p n s pos_p h. one_shaped place (Check (rows_all cs)) tt (ready_few cs (rows_all cs) refl (all_ready v cs s)) p n pos_p h))
+      (λ p n s pos_p h. one_shaped place (Check (rows_all cs)) tt (ready_few cs (rows_all cs) refl (all_ready v cs s)) p n pos_p h))
       (λ place cs. shaped_by _ (sane_all v cs) _ (one place (Test (rows_all cs))) (fold-roll-Stmt Bool (sane_step v) (stmt.Assume place cs)) (fold-roll-Stmt Rule rule_step (stmt.Assume place cs))
-          (λ p n s pos_p h. one_shaped place (Test (rows_all cs)) tt (ready_few cs (rows_all cs) refl (all_ready v cs s)) p n pos_p h))
+      (λ p n s pos_p h. one_shaped place (Test (rows_all cs)) tt (ready_few cs (rows_all cs) refl (all_ready v cs s)) p n pos_p h))
       x
 
   pub all_shaped : (ss : List Stmt) → ShapedBy (sane_stmts v ss) (rules ss)

@@ -71,12 +71,12 @@ split_plain place test.Any xs ys hx hy p n s =
 plain : (x : Stmt) → PlainOne x
 plain x = by_cases PlainOne
     (λ place v r. plain_by _ true _ (one place (assigned v r)) (fold-roll-Stmt Bool straight_step (stmt.Set place v r)) (fold-roll-Stmt Rule rule_step (stmt.Set place v r))
-        (λ p n s. record { loops = refl; free = (tt, tt) }))
+    (λ p n s. record { loops = refl; free = (tt, tt) }))
     (λ place t xs ys hx hy. plain_by _ (is_any t && (are_straight xs && are_straight ys)) _ (rule_step (stmt.If place t (map rule xs) (map rule ys)))
-        (fold-roll-Stmt Bool straight_step (stmt.If place t xs ys)) (rule-if place t xs ys) (split_plain place t xs ys (list_plain xs hx) (list_plain ys hy)))
+    (fold-roll-Stmt Bool straight_step (stmt.If place t xs ys)) (rule-if place t xs ys) (split_plain place t xs ys (list_plain xs hx) (list_plain ys hy)))
     (λ place t tried xs hx p n s. let e = fold-roll-Stmt Bool straight_step (stmt.While place t tried xs) in absurd (cc))
     (λ place cs. plain_by _ true _ (one place (Check (rows_all cs))) (fold-roll-Stmt Bool straight_step (stmt.Assert place cs)) (fold-roll-Stmt Rule rule_step (stmt.Assert place cs))
-        (λ p n s. record { loops = refl; free = (tt, tt) }))
+    (λ p n s. record { loops = refl; free = (tt, tt) }))
     (λ place cs p n s. let e = fold-roll-Stmt Bool straight_step (stmt.Assume place cs) in absurd (cc))
     x
 

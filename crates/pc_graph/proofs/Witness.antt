@@ -16,7 +16,7 @@ use Rattle.pc_graph.specs.Lists.{In}
 use Rattle.pc_graph.specs.Walk.{Pass, Keeps, Walk, entered, Breaks}
 use Rattle.pc_graph.proofs.Carrying.{same_length}
 use Rattle.pc_graph.proofs.Lists.{each_at, in_either}
-use Rattle.pc_graph.proofs.Tests.{all_or_not}
+use Rattle.pc_graph.proofs.TestWays.{all_or_not}
 
 meets_at : (s : State) (rows : List Linear) (r : Linear) → MeetsAll s rows → In r rows → Meets s r
 meets_at s [] r h m = absurd m

@@ -1,15 +1,20 @@
--- The shape of the graphs of programs, and of programs without tests and loops.
-use Rattle.std.specs.Prelude.{◌≡◌, List, [], ◌∷◌, Bool, true, false, ◌&&◌, map, length}
+-- What graphs say of their programs, and of those without tests and loops.
+use Rattle.std.specs.Prelude.{◌≡◌, ℤ, List, [], ◌∷◌, Bool, true, false, ◌&&◌, map, length}
 use Rattle.std.specs.List.{AllByRecursion as Each}
+use Rattle.pc_text.specs.declared.place.Place.{Place}
+use Rattle.pc_rows.specs.Linear.{MeetsAll}
+use Rattle.pc_syntax.specs.Machine.{Violated, run_of, Safe}
 use Rattle.pc_syntax.specs.Sane.{all_true}
+use Rattle.pc_syntax.specs.Values.{State}
 use Rattle.pc_syntax.specs.declared.program.Program.{Program}
 use Rattle.pc_syntax.specs.declared.tree.Test.{Test}
 use Rattle.pc_syntax.specs.declared.tree.Test.TheVariants as test
 use Rattle.pc_syntax.specs.declared.tree.Stmt.{Stmt, Stmt-F, fold-Stmt}
 use Rattle.pc_syntax.specs.declared.tree.Stmt.TheOpen as stmt
-use Rattle.pc_graph.specs.Exact.{StraightEdge}
+use Rattle.pc_graph.specs.Exact.{Annotation, IsPaid, IsOwed, StraightEdge}
 use Rattle.pc_graph.specs.Lowering.{graph}
 use Rattle.pc_graph.specs.Shape.{IsGraph}
+use Rattle.pc_graph.specs.Walk.{IsEntry, entered}
 
 -- every graph of a program is one
 abbrev pub GraphsAreKept : Type 0
@@ -36,3 +41,14 @@ are_straight xs = all_true (map is_straight xs)
 -- each edge of the graph of such a program leads up, and every state passes it unless it is an assertion
 abbrev pub StraightGraphs : Type 0
 StraightGraphs = (p : Program) → are_straight p.body ≡ true → Each (StraightEdge (length (graph p).points) (graph p).variables) (graph p).edges
+
+-- a program whose graph has rows at each point that pay for each edge is safe from the entry states that meet those of the entry
+abbrev pub PaidProgramsAreSafe : Type 0
+PaidProgramsAreSafe =
+    (p : Program) (a : Annotation) (s : State) → IsEntry (graph p) s → IsPaid (graph p) a → MeetsAll (entered (graph p) s) (a 0) → Safe p s
+
+-- from an entry state that breaks a row that is owed at the entry some list of choices violates an assertion
+abbrev pub OwedIsViolated : Type 0
+OwedIsViolated =
+    (p : Program) (a : Annotation) (s : State) → are_straight p.body ≡ true → IsEntry (graph p) s → IsOwed (graph p).edges a →
+    (MeetsAll (entered (graph p) s) (a 0) → ⊥) → (cs : List ℤ) × (q : Place) × (run_of p s cs ≡ Violated q)

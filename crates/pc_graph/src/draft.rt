@@ -109,7 +109,16 @@ impl Draft {
     }
 
     /// The edges of one side of a test, from `p` to a new point. `body` says whether they lead into the body of a loop.
-    pub fn branch(&mut self, alloc: Global, n: u32, p: u32, place: Place, test: &Test, side: bool, body: bool) -> Result<(), NoMemory>
+    pub fn branch(
+        &mut self,
+        alloc: Global,
+        n: u32,
+        p: u32,
+        place: Place,
+        test: &Test,
+        side: bool,
+        body: bool,
+    ) -> Result<(), NoMemory>
         requires sane { sane_test n test.now ≡ true }
         requires room { self.old.next < 2 ^ 32 - 1 }
         ensures { OnOk result (self.new ≡ branched p place (ways test.now side) body self.old) }
@@ -122,7 +131,16 @@ impl Draft {
     }
 
     /// The edges of one side of a conjunction: one for all rows, or one for the negation of each.
-    fn ways(&mut self, alloc: Global, n: u32, p: u32, to: u32, all: &[Compare], side: bool, body: bool) -> Result<(), NoMemory>
+    fn ways(
+        &mut self,
+        alloc: Global,
+        n: u32,
+        p: u32,
+        to: u32,
+        all: &[Compare],
+        side: bool,
+        body: bool,
+    ) -> Result<(), NoMemory>
         requires sane { sane_test n (All all.now) ≡ true }
         ensures { OnOk result (self.new ≡ with_tests p to (ways_of (is_lone all.now) (rows_all all.now) side) body self.old) }
     {
@@ -135,7 +153,14 @@ impl Draft {
     }
 
     /// An edge for the negation of each row.
-    fn spread(&mut self, alloc: Global, p: u32, to: u32, rows: &Rows, body: bool) -> Result<(), NoMemory>
+    fn spread(
+        &mut self,
+        alloc: Global,
+        p: u32,
+        to: u32,
+        rows: &Rows,
+        body: bool,
+    ) -> Result<(), NoMemory>
         requires { list_all row_fits rows.now ≡ true }
         ensures { OnOk result (self.new ≡ with_tests p to (apart rows.now) body self.old) }
     {

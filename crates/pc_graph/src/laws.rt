@@ -2,7 +2,7 @@
 
 ghost use Rattle.pc_graph.specs.Carry.{CarryingIsExact, OwedIsEnough};
 ghost use Rattle.pc_graph.specs.Corresponds.{StepsCorrespond};
-ghost use Rattle.pc_graph.specs.Straight.{GraphsAreKept, StraightGraphs};
+ghost use Rattle.pc_graph.specs.Straight.{GraphsAreKept, StraightGraphs, PaidProgramsAreSafe, OwedIsViolated};
 ghost use Rattle.pc_graph.specs.Exact.{PaidIsSafe, BrokenHasWalk, OwedIsNeeded};
 
 /// A program and its graph take the same steps.
@@ -44,4 +44,16 @@ pub fn graphs_are_kept()
 /// it is an assertion.
 pub fn straight_graphs()
     ensures { StraightGraphs }
+{}
+
+/// Where each edge of a program's graph is paid by the rows of its source, the program is safe from the entry states that
+/// meet the rows of the entry.
+pub fn paid_programs_are_safe()
+    ensures { PaidProgramsAreSafe }
+{}
+
+/// Without loops, assumptions and tests but `*` an entry state that breaks what is owed has choices that violate an
+/// assertion.
+pub fn owed_is_violated()
+    ensures { OwedIsViolated }
 {}

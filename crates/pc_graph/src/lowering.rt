@@ -38,18 +38,58 @@ fn lower_stmt(alloc: Global, n: u32, s: &Stmt, draft: &mut Draft) -> Result<(), 
             let rows = rows_of(alloc, all.as_slice())?;
             draft.link(*place, What::Test(rows))
         }
-        Stmt::If { place, test, then_part, else_part } => {
+        Stmt::If {
+            place,
+            test,
+            then_part,
+            else_part,
+        } => {
             let p = draft.at();
-            lower_side(alloc, n, then_part.as_slice(), p, *place, test, true, false, draft)?;
+            lower_side(
+                alloc,
+                n,
+                then_part.as_slice(),
+                p,
+                *place,
+                test,
+                true,
+                false,
+                draft,
+            )?;
             let t = draft.at();
-            lower_side(alloc, n, else_part.as_slice(), p, *place, test, false, false, draft)?;
+            lower_side(
+                alloc,
+                n,
+                else_part.as_slice(),
+                p,
+                *place,
+                test,
+                false,
+                false,
+                draft,
+            )?;
             draft.join(alloc, *place, t)
         }
-        Stmt::While { place, test, tried, body } => {
+        Stmt::While {
+            place,
+            test,
+            tried,
+            body,
+        } => {
             let p = draft.at();
             let rows = rows_of(alloc, tried.as_slice())?;
             draft.head(rows)?;
-            lower_side(alloc, n, body.as_slice(), p, *place, test, true, true, draft)?;
+            lower_side(
+                alloc,
+                n,
+                body.as_slice(),
+                p,
+                *place,
+                test,
+                true,
+                true,
+                draft,
+            )?;
             draft.turn(alloc, p)?;
             draft.branch(alloc, n, p, *place, test, false, false)
         }
@@ -58,7 +98,17 @@ fn lower_stmt(alloc: Global, n: u32, s: &Stmt, draft: &mut Draft) -> Result<(), 
 
 /// The edges of one side of a test, from `p` to a new point, and the block from there.
 #[cycle(lowering)]
-fn lower_side(alloc: Global, n: u32, list: &[Stmt], p: u32, place: Place, test: &Test, side: bool, body: bool, draft: &mut Draft) -> Result<(), NoMemory>
+fn lower_side(
+    alloc: Global,
+    n: u32,
+    list: &[Stmt],
+    p: u32,
+    place: Place,
+    test: &Test,
+    side: bool,
+    body: bool,
+    draft: &mut Draft,
+) -> Result<(), NoMemory>
     requires few { n ≤ VARIABLES }
     requires sane { sane_stmts n list.now ≡ true }
     requires tested { sane_test n test.now ≡ true }

@@ -47,21 +47,31 @@ lower_stmt-branch-draft-requires-clause-sane t c =
 pub lower_stmt-returns-in_ok-lower_side-in-If-2 : goal.lower_stmt-returns-in_ok-lower_side-in-If-2
 lower_stmt-returns-in_ok-lower_side-in-If-2 t c =
     on_ok_weaker c.join.result (λ h. if_done c.args.s.now c.in-If.place _ _ _ _ _ c.args.draft.now _ _ _ _ _ c.in-If.is c.as_slice-in-If.ensures c.as_slice-in-If-2.ensures
-        c.at-p.ensures c.in_ok-lower_side-in-If.ensures c.at-t.ensures c.in_ok-lower_side-in-If-2.ensures h) c.join.ensures
+    c.at-p.ensures c.in_ok-lower_side-in-If.ensures c.at-t.ensures c.in_ok-lower_side-in-If-2.ensures h) c.join.ensures
 
 pub lower_stmt-returns-in_ok-turn-in-While : goal.lower_stmt-returns-in_ok-turn-in-While
 lower_stmt-returns-in_ok-turn-in-While t c =
     let rows = subst (λ cs. c.in_ok-rows-in-While.rows ≡ rows_all cs) c.as_slice-in-While.ensures c.in_ok-rows-in-While.ensures in
     on_ok_weaker c.branch-draft.result (λ h. while_done c.args.s.now c.in-While.place _ _ _ _ _ c.args.draft.now _ _ _ _ _ c.in-While.is c.as_slice-in-While-2.ensures
-        c.at-p-in-While.ensures rows c.in_ok-head-in-While.ensures c.in_ok-lower_side-in-While.ensures c.in_ok-turn-in-While.ensures h) c.branch-draft.ensures
+    c.at-p-in-While.ensures rows c.in_ok-head-in-While.ensures c.in_ok-lower_side-in-While.ensures c.in_ok-turn-in-While.ensures h) c.branch-draft.ensures
 
 pub lower_stmt-lower_side-requires : goal.lower_stmt-lower_side-requires
 lower_stmt-lower_side-requires t c =
     let w = c.in-If in
     let smaller : weights c.as_slice-in-If.result.now < weight c.args.s.now = then_smaller _ _ _ _ _ _ w.is c.as_slice-in-If.ensures in
-    let ready = if_ready c.args.n c.args.s.now w.place w.test w.then_part w.else_part w.is c.requires.sane in
-    (omega arith, (c.requires.few, (ap (sane_stmts c.args.n) c.as_slice-in-If.ensures ∙ ready.1, (ready.0,
-        then_room c.args.s.now w.place w.test w.then_part w.else_part _ c.args.draft.now w.is c.as_slice-in-If.ensures c.requires.room))))
+    let ready = if_ready c.args.n c.args.s.now w.place w.test w.then_part w.else_part w.is c.requires.sane in (
+      omega arith,
+      (
+        c.requires.few,
+        (
+          ap (sane_stmts c.args.n) c.as_slice-in-If.ensures ∙ ready.1,
+          (
+            ready.0,
+            then_room c.args.s.now w.place w.test w.then_part w.else_part _ c.args.draft.now w.is c.as_slice-in-If.ensures c.requires.room,
+          ),
+        ),
+      ),
+    )
 
 pub lower_stmt-lower_side-requires-in-If : goal.lower_stmt-lower_side-requires-in-If
 lower_stmt-lower_side-requires-in-If t c =
@@ -76,7 +86,7 @@ pub lower_stmt-join-requires : goal.lower_stmt-join-requires
 lower_stmt-join-requires t c =
     let w = c.in-If in
     join_room c.args.s.now w.place w.test w.then_part w.else_part _ _ c.args.draft.now _ _ _ w.is c.as_slice-in-If.ensures c.as_slice-in-If-2.ensures
-        c.in_ok-lower_side-in-If.ensures c.in_ok-lower_side-in-If-2.ensures c.requires.room
+    c.in_ok-lower_side-in-If.ensures c.in_ok-lower_side-in-If-2.ensures c.requires.room
 
 pub lower_stmt-lower_side-requires-in-While : goal.lower_stmt-lower_side-requires-in-While
 lower_stmt-lower_side-requires-in-While t c =
