@@ -5,6 +5,7 @@ use Rattle.pc_rows.specs.Linear.{Linear, add_lists, scale_list, sum_of, scaled_b
 use Rattle.pc_rows.specs.Shows.{nothing_row}
 pub use Rattle.pc_elim.specs.Values.{Made, Bound}
 
+-- above 0
 abbrev pub is_positive : ℤ → Bool
 is_positive z = int_lt (pos 0) z
 
@@ -29,6 +30,7 @@ abbrev pub flat : (Made → List Made) → List Made → List Made
 flat f [] = []
 flat f (r ∷ rs) = f r ++ flat f rs
 
+-- the combination of p with a row in which the variable has a negative factor
 abbrev pub pair_of : ℕ → Made → Made → List Made
 pair_of k p n = if is_positive (neg_ℤ (factor n k)) then (combine k p n ∷ []) else []
 
@@ -40,6 +42,7 @@ with_each k p ns = flat (pair_of k p) ns
 abbrev pub made_of : ℕ → List Made → Made → List Made
 made_of k all r = if is_zero (factor r k) then (r ∷ []) else if is_positive (factor r k) then with_each k r all else []
 
+-- what is made of the rows rs with all rows
 abbrev pub made_from : ℕ → List Made → List Made → List Made
 made_from k all rs = flat (made_of k all) rs
 
@@ -71,5 +74,6 @@ abbrev pub started_from : ℕ → ℕ → List Linear → List Made
 started_from parts n [] = []
 started_from parts n (r ∷ rows) = (record { row = r; multipliers = unit parts n }) ∷ started_from parts (n + 1) rows
 
+-- all rows at the start
 abbrev pub started : ℕ → List Linear → List Made
 started parts rows = started_from parts zero rows

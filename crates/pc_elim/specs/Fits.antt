@@ -13,16 +13,19 @@ use Rattle.pc_elim.specs.Elimination.{Made, Bound, is_positive, factor, weigh, e
 use Rattle.pc_elim.specs.Placing.{bound_of, turned, next_bound, greatest}
 use Rattle.pc_elim.specs.Settling.{settle}
 
+-- b times the first row plus a times the second: each product and each sum
 pub record RowFits (b : ℤ) (p : Linear) (a : ℤ) (n : Linear) : Type 0 where
   pub left : IsInRange (scaled_by b p)
   pub right : IsInRange (scaled_by a n)
   pub sum : IsInRange (sum_of (scaled_by b p) (scaled_by a n))
 
+-- the same of lists of multipliers
 pub record WeighFits (b : ℤ) (p : List ℤ) (a : ℤ) (n : List ℤ) : Type 0 where
   pub left : AllInRange (scale_list b p)
   pub right : AllInRange (scale_list a n)
   pub sum : AllInRange (weigh b p a n)
 
+-- all that is computed for a combination
 pub record CombineFits (k : ℕ) (p n : Made) : Type 0 where
   pub row : RowFits (neg_ℤ (factor n k)) p.row (factor p k) n.row
   pub multipliers : WeighFits (neg_ℤ (factor n k)) p.multipliers (factor p k) n.multipliers
@@ -31,6 +34,7 @@ pub record CombineFits (k : ℕ) (p n : Made) : Type 0 where
 abbrev pub PairFits : ℕ → Made → Made → Type 0
 PairFits k p n = is_positive (neg_ℤ (factor n k)) ≡ true → CombineFits k p n
 
+-- the combinations of a row with each other one, where it is combined at all
 abbrev pub AllPairsFit : ℕ → List Made → Made → Type 0
 AllPairsFit k all r = is_positive (factor r k) ≡ true → AllByRecursion (PairFits k r) all
 
@@ -46,36 +50,43 @@ abbrev pub Unless : {A E : Type 0} → Result A E → A → Type 0 → Type 0
 Unless (Ok x) v Fits = x ≡ v
 Unless (Err e) v Fits = Fits → ⊥
 
--- the cross products
+-- the cross products that compare a bound with the best so far
 abbrev pub GreaterFits : Option Bound → Bound → Type 0
 GreaterFits None b = Unit {0}
 GreaterFits (Some a) b = InRange (a.number *ℤ b.weight) × InRange (b.number *ℤ a.weight)
 
+-- the row's value at the point, and the comparison
 pub record BoundFits (opposite : Bool) (k : ℕ) (p : Point) (best : Option Bound) (r : Made) : Type 0 where
   pub value : NumeratorFits r.row p
   pub greater : GreaterFits best (bound_of opposite k p r)
 
+-- only rows that give a bound have to fit
 abbrev pub NextFits : Bool → ℕ → Point → Option Bound → Made → Type 0
 NextFits opposite k p best r = is_positive (turned opposite (factor r k)) ≡ true → BoundFits opposite k p best r
 
+-- row by row
 abbrev pub GreatestFits : Bool → ℕ → Point → Option Bound → List Made → Type 0
 GreatestFits opposite k p best [] = Unit {0}
 GreatestFits opposite k p best (r ∷ rs) = NextFits opposite k p best r × GreatestFits opposite k p (next_bound opposite k p best r) rs
 
+-- the point over the weight of the bound
 pub record AtFits (p : Point) (b : Bound) : Type 0 where
   pub numerators : AllInRange (over_multiple b.weight p).numerators
   pub denominator : InRange (over_multiple b.weight p).denominator
 
+-- only the bound that is taken
 abbrev pub ByFits : Point → Option Bound → Option Bound → Type 0
 ByFits p (Some lower) upper = AtFits p lower
 ByFits p None (Some upper) = AtFits p upper
 ByFits p None None = Unit {0}
 
+-- all that is computed to take a point back over variable k
 pub record PlacedFits (k : ℕ) (rs : List Made) (p : Point) : Type 0 where
   pub lower : GreatestFits false k p None rs
   pub upper : GreatestFits true k p None rs
   pub at : ByFits p (greatest false k p None rs) (greatest true k p None rs)
 
+-- multipliers are passed on as they are
 abbrev pub BackFits : ℕ → List Made → Found → Type 0
 BackFits k rs (Shown multipliers) = Unit {0}
 BackFits k rs (At p) = PlacedFits k rs p

@@ -4,10 +4,11 @@ use Rattle.pc_rows.specs.Evidence.{Point}
 use Rattle.pc_rows.specs.Points.{numerator, over_multiple, with_numerator}
 use Rattle.pc_elim.specs.Elimination.{Made, Bound, is_positive, factor}
 
--- by the cross products
+-- whether the first bound is below the second, by their cross products
 abbrev pub is_below : Bound → Bound → Bool
 is_below a b = int_lt (a.number *ℤ b.weight) (b.number *ℤ a.weight)
 
+-- the greater of the two, and the first where they are equal
 abbrev pub greater : Option Bound → Bound → Option Bound
 greater None b = Some b
 greater (Some a) b = if is_below a b then Some b else Some a
@@ -21,6 +22,7 @@ turned false z = z
 abbrev pub bound_of : Bool → ℕ → Point → Made → Bound
 bound_of opposite k p r = record { number = neg_ℤ (numerator r.row p); weight = turned opposite (factor r k) }
 
+-- only a row with a factor above 0, turned, gives a bound
 abbrev pub next_bound : Bool → ℕ → Point → Option Bound → Made → Option Bound
 next_bound opposite k p best r = if is_positive (turned opposite (factor r k)) then greater best (bound_of opposite k p r) else best
 
@@ -33,6 +35,7 @@ greatest opposite k p best (r ∷ rs) = greatest opposite k p (next_bound opposi
 abbrev pub placed_at : Bool → ℕ → Point → Bound → Point
 placed_at opposite k p b = with_numerator (over_multiple b.weight p) k (turned opposite b.number)
 
+-- by the lower bound where there is one
 abbrev pub placed_by : ℕ → Point → Option Bound → Option Bound → Point
 placed_by k p (Some lower) upper = placed_at false k p lower
 placed_by k p None (Some upper) = placed_at true k p upper

@@ -21,6 +21,7 @@ abbrev pub ended : ℕ → List Made → Found
 ended width [] = At (origin width)
 ended width (r ∷ rs) = if is_contradiction r then Shown r.multipliers else ended width rs
 
+-- a point is taken back over variable k
 abbrev pub back_over : ℕ → List Made → Found → Found
 back_over k rs (Shown multipliers) = Shown multipliers
 back_over k rs (At p) = At (placed k rs p)

@@ -59,6 +59,7 @@ fn started(alloc: Global, s: &System, negated: &Row) -> Result<Items<Made>, NoMe
     Ok(rows)
 }
 
+/// Puts row `i` of the start at the end.
 fn add(rows: &mut Items<Made>, r: &Row, i: usize) -> Result<(), NoMemory>
     requires { i < PARTS }
     ensures { IfOk result (λ _. rows.new ≡ rows.old ++ (record { row = r.now; multipliers = unit PARTS i }) ∷ []) }
@@ -80,6 +81,7 @@ fn shown(alloc: Global, s: &System, multipliers: &[Number; PARTS]) -> Result<Ans
     }
 }
 
+/// The multipliers of the premises that are not 0, and that of the negated goal.
 fn proof_of(
     alloc: Global,
     premises: usize,
@@ -95,6 +97,7 @@ fn proof_of(
     Ok(Proof::new(multipliers[premises], parts))
 }
 
+/// Puts a part at the end, unless its multiplier is 0.
 fn add_part(parts: &mut Parts, i: usize, multiplier: Number) -> Result<(), NoMemory>
     requires premise { i < PREMISES }
     requires rising { IsAbove i parts.old }
