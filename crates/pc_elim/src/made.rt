@@ -45,6 +45,7 @@ impl Model for Made {
 }
 
 impl Made {
+    /// A row with the multipliers that make it of the rows at the start.
     pub fn new(row: Row, multipliers: [Number; PARTS]) -> Made
         ensures { result ≡ record { row = row; multipliers = multipliers } }
     {
@@ -62,12 +63,14 @@ impl Made {
         }
     }
 
+    /// The row.
     pub fn row(&self) -> &Row
         ensures { result.now ≡ self.now.row }
     {
         &self.row
     }
 
+    /// The multipliers, one for each row at the start.
     pub fn multipliers(&self) -> &[Number; PARTS]
         ensures { result.now ≡ self.now.multipliers }
     {
@@ -89,6 +92,7 @@ impl Made {
         self.row.constant() < 0
     }
 
+    /// The same row with the same multipliers.
     pub fn copy(&self) -> Made
         ensures { result ≡ self.now }
     {

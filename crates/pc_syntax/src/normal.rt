@@ -52,6 +52,7 @@ pub fn affine(alloc: Global, e: &Expr) -> Result<Row, AffineFault>
     }
 }
 
+/// The sum of two forms, of the operator at `place`.
 pub fn sum(a: &Row, b: &Row, place: Place) -> Result<Row, AffineFault>
     ensures { result ≡ fits (AffineFault.Past place) (sum_of a.now b.now) }
 {
@@ -61,6 +62,7 @@ pub fn sum(a: &Row, b: &Row, place: Place) -> Result<Row, AffineFault>
     }
 }
 
+/// The difference of two forms, of the operator at `place`.
 pub fn difference(a: &Row, b: &Row, place: Place) -> Result<Row, AffineFault>
     ensures { result ≡ fits (AffineFault.Past place) (difference_of a.now b.now) }
 {
@@ -70,6 +72,7 @@ pub fn difference(a: &Row, b: &Row, place: Place) -> Result<Row, AffineFault>
     }
 }
 
+/// A form times a number, of the operator at `place`.
 pub fn multiple(k: i128, r: &Row, place: Place) -> Result<Row, AffineFault>
     requires { InRange k }
     ensures { result ≡ fits (AffineFault.Past place) (scaled_by k r.now) }
