@@ -11,5 +11,7 @@ pub mod WalkedStmts
 pub mod StepLemmas
 pub mod SymbolFits
 pub mod Phrases
+pub mod PhraseSymbols
+pub mod ExprFits
 pub mod TreeFits
 pub mod Readings
