@@ -11,6 +11,8 @@ pub mod WalkedStmts
 pub mod StepLemmas
 pub mod SymbolFits
 pub mod Phrases
+pub mod PhraseSymbols
+pub mod ExprFits
 pub mod TreeFits
 pub mod Readings
 pub mod LoopLemmas
