@@ -2,8 +2,6 @@
 use Rattle.std.proofs.Common.{◌≡◌, ℕ, ◌<◌, ◌≤◌, ◌↔◌, ◌⊎◌, inl, inr, List, length, Option, arith, refl, subst}
 use Rattle.pc_ports.specs.Outside.{Holding, Untold, Nothing, Held, Rose}
 use Rattle.pc_text.specs.Bytes.{Bytes}
-use Rattle.pc_syntax.specs.declared.program.Program.{Program}
-use Rattle.pc_syntax.specs.Spelling.{Spells}
 use Rattle.pc_app.specs.declared.status.TheConstants.{DONE, USAGE, REFUSED, STORE_FAILED, SINK_FAILED, NO_MEMORY, TOO_LONG}
 use Rattle.pc_app.specs.declared.limits.TheConstants.{SOURCE_BYTES}
 use Rattle.pc_app.specs.Words.{IsInfer, IsPlain}

@@ -1,13 +1,12 @@
 -- What the top call promises, by its words, by what the store tells and what the sink tells, and by their counts of faults.
-use Rattle.std.specs.Prelude.{◌≡◌, ◌≢◌, ℕ, true, false, Option, List}
+use Rattle.std.specs.Prelude.{◌≡◌, ◌≢◌, ℕ, true, Option, List}
 use Rattle.pc_ports.specs.Outside.{Holding, Untold, Nothing, Held, Rose, Appended, FrontAppended}
 use Rattle.pc_rows.specs.Linear.{Linear}
 use Rattle.pc_text.specs.Bytes.{Bytes}
 use Rattle.pc_syntax.specs.declared.program.Program.{Program}
-use Rattle.pc_syntax.specs.declared.fault.SourceFault.{SourceFault}
 use Rattle.pc_syntax.specs.Spelling.{Spells}
 use Rattle.pc_cert.specs.Conditions.{condition_text}
-use Rattle.pc_app.specs.declared.status.TheConstants.{DONE, REFUSED, STORE_FAILED, SINK_FAILED, NO_MEMORY}
+use Rattle.pc_app.specs.declared.status.TheConstants.{STORE_FAILED, SINK_FAILED, NO_MEMORY}
 use Rattle.pc_app.specs.Line.{is_line}
 use Rattle.pc_app.specs.Tame.{IsTame}
 use Rattle.pc_app.specs.Inferred.{IsCondition, Suffices, IsNeeded}

@@ -1,5 +1,4 @@
-use Rattle.std.proofs.Common.{◌≡◌, refl, ap, sym, ◌∙◌, Some, None, List, Option}
-use Rattle.pc_text.specs.declared.place.Place.{Place}
+use Rattle.std.proofs.Common.{refl, ap, sym, ◌∙◌, List}
 use Rattle.pc_syntax.specs.declared.tree.Stmt.{Stmt}
 use Rattle.pc_app.specs.Built.{first_not_built}
 use Rattle.pc_app.specs.Answers.ProgramAnswers.{IsNotBuilt, HasCondition}
