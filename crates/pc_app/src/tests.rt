@@ -87,7 +87,7 @@ fn conditions_are_printed(rt: HostRuntime) -> Result<(), Fail> {
 }
 
 /// The sources that are refused, and why.
-const REFUSALS: [(&str, &str); 10] = [
+const REFUSALS: [(&str, &str); 11] = [
     ("", "syntax 1:1"),
     (
         "entry (x) { x = 170141183460469231731687303715884105728; }",
@@ -97,6 +97,10 @@ const REFUSALS: [(&str, &str); 10] = [
     ("entry (x, y) { x = x * y; }", "not-affine 1:22"),
     ("entry (x) { x = x + [3, 2]; }", "empty-interval 1:21 3 2"),
     ("entry (x) { assert (x != 0); }", "unequal 1:23"),
+    (
+        "entry (x) { assert (x - 170141183460469231731687303715884105727 >= 1); }",
+        "form-past 1:65",
+    ),
     ("entry (x) { x = y; }", "unknown-name 1:17"),
     ("entry (x) { var x; x = 0; }", "duplicate-name 1:17"),
     (
@@ -128,6 +132,32 @@ fn a_thirty_third_row_is_too_many(rt: HostRuntime) -> Result<(), Fail> {
     let (status, sink) = infer(rt.alloc(), source.as_bytes())?;
     assert_eq!(rt; status, DONE);
     assert_eq!(rt; sink.written(), b"suffices: false\n".as_slice());
+    Ok(())
+}
+
+/// A program of so many assignments, each on a line of its own.
+fn assignments(alloc: Global, count: u32) -> Result<String, Fail> {
+    let mut source = String::from_str(alloc, "entry (x) {\n")?;
+    for _ in 0..count {
+        source.push_str("x = x;\n")?;
+    }
+    source.push_str("}")?;
+    Ok(source)
+}
+
+#[test]
+fn the_1024th_assignment_is_an_edge_too_many(rt: HostRuntime) -> Result<(), Fail> {
+    let source = assignments(rt.alloc(), 1023)?;
+    let (status, sink) = infer(rt.alloc(), source.as_bytes())?;
+    assert_eq!(rt; status, DONE);
+    assert_eq!(rt; sink.written(), b"suffices: true\n".as_slice());
+    let source = assignments(rt.alloc(), 1024)?;
+    let (status, sink) = infer(rt.alloc(), source.as_bytes())?;
+    assert_eq!(rt; status, REFUSED);
+    assert_eq!(rt;
+        sink.written(),
+        b"source: too-many-edges 1025:1\n".as_slice()
+    );
     Ok(())
 }
 
@@ -198,7 +228,8 @@ fn a_file_that_is_not_held_is_told_by_the_status_alone(rt: HostRuntime) -> Resul
 fn what_was_written_before_a_fault_stays(rt: HostRuntime) -> Result<(), Fail> {
     let mut fails = Calls::new(rt.alloc());
     fails.push(2)?;
-    let (status, sink) = call(rt.alloc(), &["infer", "f"], b"entry (x) { }", 10, fails)?;
+    let source = b"entry (x) { var y; assert (x >= y); }";
+    let (status, sink) = call(rt.alloc(), &["infer", "f"], source, 10, fails)?;
     assert_eq!(rt; status, SINK_FAILED);
     assert_eq!(rt; sink.written(), b"suffices: ".as_slice());
     Ok(())
