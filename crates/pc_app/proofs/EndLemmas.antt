@@ -73,13 +73,13 @@ module _ (words : List Bytes) (held : Bytes → Holding) (old new : Option Bytes
   sink (CutOff s cut) e = cut
   sink (Starved s same) e = absurd (omega arith)
 
-  pub silent : Ended → (status ≡ STORE_FAILED) ⊎ (status ≡ NO_MEMORY) → new ≡ old
-  silent (Answered a) (inl e) = absurd ((answers_is_answered words held status a.text a.answers).0 e)
-  silent (Answered a) (inr e) = absurd ((answers_is_answered words held status a.text a.answers).2 e)
-  silent (Unread s lacks same) e = same
-  silent (CutOff s cut) (inl e) = absurd (omega arith)
-  silent (CutOff s cut) (inr e) = absurd (omega arith)
-  silent (Starved s same) e = same
+  pub unwritten : Ended → (status ≡ STORE_FAILED) ⊎ (status ≡ NO_MEMORY) → new ≡ old
+  unwritten (Answered a) (inl e) = absurd ((answers_is_answered words held status a.text a.answers).0 e)
+  unwritten (Answered a) (inr e) = absurd ((answers_is_answered words held status a.text a.answers).2 e)
+  unwritten (Unread s lacks same) e = same
+  unwritten (CutOff s cut) (inl e) = absurd (omega arith)
+  unwritten (CutOff s cut) (inr e) = absurd (omega arith)
+  unwritten (Starved s same) e = same
 
   pub complete : Ended → (name bytes : Bytes) → IsInfer words name → held name ≡ Held bytes → length bytes ≤ SOURCE_BYTES → IsAnalysed bytes →
       (Rose store_before store_now → ⊥) → (Rose sink_before sink_now → ⊥) → (status ≡ DONE) ⊎ (status ≡ NO_MEMORY)

@@ -16,34 +16,48 @@ use std::alloc::Global;
 /// Answers the words of a command line, and ends with a status.
 ///
 /// The words are those after the program's name. `infer F` reads the source `F` from the store and
-/// writes a condition on its entry states to the sink. What is written in other cases, and when
-/// they come, is told with the statuses. The store holds what it held.
+/// writes a condition on its entry states to the sink: [`DONE`]. What is written with each other
+/// status, and when it comes, stands with the statuses.
 pub fn serve<S: Store, K: Sink>(alloc: Global, words: &[String], store: &mut S, out: &mut K) -> u8
-    // Words `infer F`, done: F spells a program, and every entry state that meets the printed condition is safe.
+    // Words `infer F`, done: the bytes of F spell a program, a condition on its entry states was
+    // printed, and every entry state that meets it is safe.
     ensures sound { (name : List ℕ) → IsInfer (map string_bytes words.now) name → result ≡ DONE →
         OfBytes (λ bytes. PrintedSuffices bytes (K.written out.old) (K.written out.new)) (S.holding store.old name) }
-    // On tame lines of assertions and assignments the condition is met by exactly the safe entry states.
+
+    // On tame lines of assertions and assignments exactly the safe entry states meet it.
     ensures exact { (name : List ℕ) → IsInfer (map string_bytes words.now) name → result ≡ DONE →
         OfBytes (λ bytes. PrintedIsExact bytes (K.written out.old) (K.written out.new)) (S.holding store.old name) }
-    // Each answer is whole.
-    ensures answered { IsAnswered result → HasAnswered (map string_bytes words.now) (S.holding store.old) result (K.written out.old) (K.written out.new) }
+
+    // Each answer is written whole.
+    ensures answered { IsAnswered result →
+        HasAnswered (map string_bytes words.now) (S.holding store.old) result (K.written out.old) (K.written out.new) }
+
     // Usage exactly for words in no plain form.
     ensures usage { IsAnswered result → (result ≡ USAGE) ↔ (IsPlain (map string_bytes words.now) → ⊥) }
+
     // Too long exactly where more bytes are held than the limit.
     ensures too_long { (name bytes : List ℕ) → IsInfer (map string_bytes words.now) name → S.holding store.old name ≡ Held bytes →
         IsAnswered result → (result ≡ TOO_LONG) ↔ (SOURCE_BYTES < length bytes) }
+
     // Refused exactly where the bytes spell no program that is analysed.
     ensures refused { (name bytes : List ℕ) → IsInfer (map string_bytes words.now) name → S.holding store.old name ≡ Held bytes →
         IsAnswered result → length bytes ≤ SOURCE_BYTES → (result ≡ REFUSED) ↔ (IsAnalysed bytes → ⊥) }
-    // The faults outside, and want of memory.
-    ensures store { result ≡ STORE_FAILED → LacksFile (map string_bytes words.now) (S.holding store.old) (S.faults store.old) (S.faults store.new) }
-    ensures sink { result ≡ SINK_FAILED → IsCutOff (map string_bytes words.now) (S.holding store.old) (K.written out.old) (K.written out.new) (K.faults out.old) (K.faults out.new) }
-    ensures silent { (result ≡ STORE_FAILED) ⊎ (result ≡ NO_MEMORY) → K.written out.new ≡ K.written out.old }
-    // With no fault outside, a source that is held, short enough and analysed is done, but for want of memory.
+
+    // The faults outside have their causes. Without memory, and without the file, nothing is written.
+    ensures store { result ≡ STORE_FAILED →
+        LacksFile (map string_bytes words.now) (S.holding store.old) (S.faults store.old) (S.faults store.new) }
+    ensures sink { result ≡ SINK_FAILED →
+        IsCutOff (map string_bytes words.now) (S.holding store.old) (K.written out.old) (K.written out.new) (K.faults out.old) (K.faults out.new) }
+    ensures unwritten { (result ≡ STORE_FAILED) ⊎ (result ≡ NO_MEMORY) → K.written out.new ≡ K.written out.old }
+
+    // Where nothing outside fails, a source that is held, short enough and analysed is done, but
+    // for want of memory.
     ensures complete { (name bytes : List ℕ) → IsInfer (map string_bytes words.now) name → S.holding store.old name ≡ Held bytes →
         length bytes ≤ SOURCE_BYTES → IsAnalysed bytes →
         (Rose (S.faults store.old) (S.faults store.new) → ⊥) → (Rose (K.faults out.old) (K.faults out.new) → ⊥) →
         (result ≡ DONE) ⊎ (result ≡ NO_MEMORY) }
+
+    // The store holds what it held.
     ensures kept { (name : List ℕ) → S.holding store.new name ≡ S.holding store.old name }
 {
     respond(alloc, words, store, out)
@@ -51,7 +65,8 @@ pub fn serve<S: Store, K: Sink>(alloc: Global, words: &[String], store: &mut S, 
 
 /// Answers the words, and says how that went by the status.
 fn respond<S: Store, K: Sink>(alloc: Global, words: &[String], store: &mut S, out: &mut K) -> u8
-    ensures ends { Ends (map string_bytes words.now) (S.holding store.old) (K.written out.old) (K.written out.new) (S.faults store.old) (S.faults store.new) (K.faults out.old) (K.faults out.new) result }
+    ensures ends { Ends (map string_bytes words.now) (S.holding store.old) (K.written out.old) (K.written out.new)
+        (S.faults store.old) (S.faults store.new) (K.faults out.old) (K.faults out.new) result }
     ensures kept { (name : List ℕ) → S.holding store.new name ≡ S.holding store.old name }
 {
     match answer_to_words(alloc, words, store) {

@@ -25,8 +25,8 @@ returns-clause-store g c = ends.store _ _ _ _ _ _ _ _ _ c.respond.ensures.ends
 pub returns-clause-sink : goal.returns-clause-sink
 returns-clause-sink g c = ends.sink _ _ _ _ _ _ _ _ _ c.respond.ensures.ends
 
-pub returns-clause-silent : goal.returns-clause-silent
-returns-clause-silent g c = ends.silent _ _ _ _ _ _ _ _ _ c.respond.ensures.ends
+pub returns-clause-unwritten : goal.returns-clause-unwritten
+returns-clause-unwritten g c = ends.unwritten _ _ _ _ _ _ _ _ _ c.respond.ensures.ends
 
 pub returns-clause-complete : goal.returns-clause-complete
 returns-clause-complete g c = ends.complete _ _ _ _ _ _ _ _ _ c.respond.ensures.ends
