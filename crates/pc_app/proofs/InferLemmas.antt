@@ -4,13 +4,12 @@ use Rattle.std.specs.Prelude.{nat_le, ◌&&◌}
 use Rattle.std.specs.List.{AllByRecursion}
 use Rattle.std.proofs.lemmas.Bool.Decides.{nat_tests}
 use Rattle.std.proofs.lemmas.List.{length-replicate}
-use Rattle.pc_rows.specs.Linear.{Linear, MeetsAll, MeetsSome, first_of, zero_from}
+use Rattle.pc_rows.specs.Linear.{Linear, MeetsAll, MeetsSome, first_of, zero_from, IsOver}
 use Rattle.pc_rows.specs.declared.rows.TheConstants.{ROWS}
 use Rattle.pc_rows.specs.declared.row.TheConstants.{VARIABLES}
 use Rattle.pc_rows.proofs.Joining.{join_is_both, joined_each}
 use Rattle.pc_rows.proofs.Carrying.{substitution_is_exact}
 use Rattle.pc_rows.proofs.First.{value_at_entry}
-use Rattle.pc_cert.specs.Conditions.{IsWithin}
 use Rattle.pc_text.specs.Named.{locals}
 use Rattle.pc_syntax.specs.declared.limits.TheConstants.{EDGES}
 use Rattle.pc_syntax.specs.declared.program.Program.{Program}
@@ -70,7 +69,7 @@ zero_past zero (suc v) (z ∷ zs) h = zero_past zero v zs (omega arith)
 zero_past (suc n) zero (z ∷ zs) h = absurd (omega arith)
 zero_past (suc n) (suc v) (z ∷ zs) h = zero_past n v zs (omega arith)
 
-firsts_within : (n : ℕ) (rows : List Linear) → AllByRecursion (IsWithin n) (map (first_of n) rows)
+firsts_within : (n : ℕ) (rows : List Linear) → AllByRecursion (IsOver n) (map (first_of n) rows)
 firsts_within n [] = tt
 firsts_within n (r ∷ rows) = ((λ v h. zero_past n v r.coefficients h), firsts_within n rows)
 
@@ -79,8 +78,8 @@ each_is P [] h k d l = absurd (omega arith)
 each_is P (x ∷ xs) h zero d l = h.0
 each_is P (x ∷ xs) h (suc k) d l = each_is P xs h.1 k d (omega arith)
 
-entry_within : (n : ℕ) (rows : List Linear) → All (IsWithin n) (at_entry n rows)
-entry_within n rows = each_is (IsWithin n) (at_entry n rows) (joined_each (IsWithin n) [] (map (first_of n) rows) tt (firsts_within n rows))
+entry_within : (n : ℕ) (rows : List Linear) → All (IsOver n) (at_entry n rows)
+entry_within n rows = each_is (IsOver n) (at_entry n rows) (joined_each (IsOver n) [] (map (first_of n) rows) tt (firsts_within n rows))
 
 -- ---- the condition
 
@@ -117,7 +116,7 @@ line_inferred p rows keeps line e most = record {
   small = record {
     alternatives = omega arith;
     rows = only (λ rows. length rows ≤ ROWS) rows most;
-    parameters = only (All (IsWithin p.names.params)) rows (rw e (entry_within p.names.params (need p.body)));
+    parameters = only (All (IsOver p.names.params)) rows (rw e (entry_within p.names.params (need p.body)));
   };
   sound = line_suffices p rows keeps line e;
   exact = λ straight tame. line_is_needed p rows keeps line e;
@@ -125,11 +124,11 @@ line_inferred p rows keeps line e most = record {
 
 pub beyond_inferred : (p : Program) → (LineFits p.body → ⊥) → Inferred p []
 beyond_inferred p beyond = record {
-  small = record { alternatives = omega arith; rows = none (λ rows. length rows ≤ ROWS); parameters = none (All (IsWithin p.names.params)) };
+  small = record { alternatives = omega arith; rows = none (λ rows. length rows ≤ ROWS); parameters = none (All (IsOver p.names.params)) };
   sound = λ s entry meets. absurd meets;
   exact = λ line tame s entry. absurd (beyond (tame_fits p.body tame));
 }
 
 -- over the parameters is over the names
-pub named : (p : Program) (condition : List (List Linear)) → Kept p → All (All (IsWithin p.names.params)) condition → All (All (IsWithin (length p.names.names))) condition
+pub named : (p : Program) (condition : List (List Linear)) → Kept p → All (All (IsOver p.names.params)) condition → All (All (IsOver (length p.names.names))) condition
 named p condition keeps over = λ k d l i e m v h. over k d l i e m v (let params = keeps.params in omega arith)

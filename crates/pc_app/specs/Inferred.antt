@@ -1,7 +1,6 @@
 -- What `infer` finds for a program: a condition on its entry states that suffices.
 use Rattle.std.specs.Prelude.{◌≡◌, ◌≤◌, ◌⊎◌, true, List, length, All}
-use Rattle.pc_cert.specs.Conditions.{IsWithin}
-use Rattle.pc_rows.specs.Linear.{Linear, MeetsSome}
+use Rattle.pc_rows.specs.Linear.{IsOver, Linear, MeetsSome}
 use Rattle.pc_rows.specs.declared.rows.TheConstants.{ROWS}
 use Rattle.pc_syntax.specs.declared.program.Program.{Program}
 use Rattle.pc_syntax.specs.Values.{State}
@@ -18,7 +17,7 @@ IsEntry p s = length s ≡ p.names.params
 pub record IsCondition (p : Program) (condition : List (List Linear)) : Type 0 where
   pub alternatives : length condition ≤ ALTERNATIVES
   pub rows : All (λ rows. length rows ≤ ROWS) condition
-  pub parameters : All (All (IsWithin p.names.params)) condition
+  pub parameters : All (All (IsOver p.names.params)) condition
 
 -- every entry state that meets the condition is safe
 abbrev pub Suffices : Program → List (List Linear) → Type 0

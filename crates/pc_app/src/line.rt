@@ -1,7 +1,7 @@
 //! Lines of assertions and assignments: the rows that they need before them.
 
 ghost use Rattle.std.specs.Prelude.{◌≡◌, ◌∷◌, [], true, IfOk, All, length};
-ghost use Rattle.pc_cert.specs.Conditions.{IsWithin};
+ghost use Rattle.pc_rows.specs.Linear.{IsOver};
 ghost use Rattle.pc_syntax.specs.declared.tree.Stmt.{out-Stmt};
 ghost use Rattle.pc_app.specs.Line.{is_line, is_plain};
 ghost use Rattle.pc_app.specs.Built.{stmt_place, first_not_built};
@@ -55,7 +55,7 @@ fn place_of(stmt: &Stmt) -> Place
 pub(crate) fn alternatives_of(alloc: Global, program: &Program) -> Result<Items<Rows>, NoMemory>
     requires { is_line program.now.body ≡ true }
     ensures inferred { IfOk result (λ condition. Inferred program.now condition) }
-    ensures named { IfOk result (λ condition. All (All (IsWithin (length program.now.names.names))) condition) }
+    ensures named { IfOk result (λ condition. All (All (IsOver (length program.now.names.names))) condition) }
 {
     match needed(alloc, program.body.as_slice()) {
         Ok(rows) => Ok(one(alloc, entry_rows(alloc, &rows, program.names.params())?)?),

@@ -6,10 +6,10 @@ use Rattle.std.proofs.lemmas.Bool.{cases_lt, false≢true}
 use Rattle.std.proofs.lemmas.List.{append-nil, take_more, take_all, drop_more, length-take-le}
 use Rattle.std.proofs.lemmas.List.Concat.{flat_map-append}
 use Rattle.pc_text.specs.Bytes.{Bytes}
-use Rattle.pc_rows.specs.Linear.{Linear, is_zero, coefficient}
+use Rattle.pc_rows.specs.Linear.{Linear, is_zero, coefficient, IsOver}
 use Rattle.pc_rows.specs.declared.row.TheConstants.{VARIABLES}
 use Rattle.pc_cert.proofs.Sums.{sum_text-push, is_empty-push}
-use Rattle.pc_cert.specs.Conditions.{Part, term, terms, part_text, sum_text, is_empty, IsWithin, row_text, rows_text}
+use Rattle.pc_cert.specs.Conditions.{Part, term, terms, part_text, sum_text, is_empty, row_text, rows_text}
 
 terms_of_none : (n : ℕ) (cs : List ℤ) → terms (drop n []) cs ≡ []
 terms_of_none zero cs = refl
@@ -115,13 +115,13 @@ terms_end names cs is_first old new h =
     (h.first ∙ ap (λ z. is_empty (terms names z)) whole, h.text ∙ ap (λ z. old ++ sum_text (terms names z)) whole)
 
 named_by :
-    (n : ℕ) (r : Linear) (v : ℕ) → IsWithin n r → is_zero (coefficient r v) ≡ false → (v < n) ⊎ (n ≤ v) →
+    (n : ℕ) (r : Linear) (v : ℕ) → IsOver n r → is_zero (coefficient r v) ≡ false → (v < n) ⊎ (n ≤ v) →
     v < n
 named_by n r v within some (inl named) = named
 named_by n r v within some (inr past) = absurd (false≢true (sym some ∙ ap is_zero (within v past)))
 
 -- a variable with a term has a name
-pub named : (n : ℕ) (r : Linear) (v : ℕ) → IsWithin n r → is_zero (coefficient r v) ≡ false → v < n
+pub named : (n : ℕ) (r : Linear) (v : ℕ) → IsOver n r → is_zero (coefficient r v) ≡ false → v < n
 named n r v within some = named_by n r v within some (cases_lt v n)
 
 -- a row more at the end of some rows

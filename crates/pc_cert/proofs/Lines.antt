@@ -7,7 +7,7 @@ use Rattle.std.proofs.lemmas.List.Elements.{All-head, All-tail}
 use Rattle.pc_rows.specs.Linear.{Linear}
 use Rattle.pc_text.specs.Bytes.{Bytes}
 use Rattle.pc_cert.specs.Conditions.{terms, sum_text, row_text, rows_text, line_text}
-use Rattle.pc_cert.specs.Law.{AreNames, IsOver, AreOver, TextDeterminesCondition}
+use Rattle.pc_cert.specs.Law.{AreNames, IsOverNames, AreOver, TextDeterminesCondition}
 use Rattle.pc_cert.proofs.Splits.{Stops, same_cut, each-append, each_weaker}
 use Rattle.pc_cert.proofs.Parts.{IsSumByte, is_sum_byte, are_sum_bytes, sum_text_bytes, same_sum}
 use Rattle.pc_cert.proofs.Rows.{parts, parts_text, parts_are_parts, same_parts}
@@ -20,7 +20,7 @@ unfolding sum_of
 sum_of_bytes names r h = sum_text_bytes (parts names r) (parts_are_parts names r h)
 
 same_sum_of :
-    (names : List Bytes) (r q : Linear) → AreNames names → IsOver names r → IsOver names q →
+    (names : List Bytes) (r q : Linear) → AreNames names → IsOverNames names r → IsOverNames names q →
     sum_of names r ≡ sum_of names q → r ≡ q
 unfolding sum_of
 same_sum_of names r q h over_r over_q e =
@@ -52,7 +52,7 @@ with_space :
 with_space names r h = each-append IsSumByte (sum_of names r) (32 ∷ []) (sum_of_bytes names r h) space_is_sum_byte
 
 same_row :
-    (names : List Bytes) (r q : Linear) (x y : Bytes) → AreNames names → IsOver names r → IsOver names q →
+    (names : List Bytes) (r q : Linear) (x y : Bytes) → AreNames names → IsOverNames names r → IsOverNames names q →
     row_text names r ++ x ≡ row_text names q ++ y → (r ≡ q) × (x ≡ y)
 same_row names r q x y h over_r over_q e =
     let split = sym (row_split names r x) ∙ e ∙ row_split names q y in
@@ -77,19 +77,19 @@ no_row names r w x h in_w e =
 
 module _ (names : List Bytes) (h : AreNames names) where
   same_later_rows :
-      (rs qs : List Linear) → All (IsOver names) rs → All (IsOver names) qs →
+      (rs qs : List Linear) → All (IsOverNames names) rs → All (IsOverNames names) qs →
       flat_map (λ r. codes " && " ++ row_text names r) rs ≡ flat_map (λ r. codes " && " ++ row_text names r) qs →
       rs ≡ qs
   same_later_rows [] [] over_r over_q e = refl
   same_later_rows [] (q ∷ qs) over_r over_q e = absurd (cc)
   same_later_rows (r ∷ rs) [] over_r over_q e = absurd (cc)
   same_later_rows (r ∷ rs) (q ∷ qs) over_r over_q e =
-      let first = All-head (IsOver names) r rs over_r in
-      let second = All-head (IsOver names) q qs over_q in
+      let first = All-head (IsOverNames names) r rs over_r in
+      let second = All-head (IsOverNames names) q qs over_q in
       let same = same_row names r q _ _ h first second (ap (drop 4) e) in
       let head : r ≡ q = same.0 in
-      let later = All-tail (IsOver names) r rs over_r in
-      let others = All-tail (IsOver names) q qs over_q in
+      let later = All-tail (IsOverNames names) r rs over_r in
+      let others = All-tail (IsOverNames names) q qs over_q in
       let tail : rs ≡ qs = same_later_rows rs qs later others same.1 in
       cc
 
@@ -102,18 +102,18 @@ module _ (names : List Bytes) (h : AreNames names) where
   false_bytes = are_sum_bytes (codes "false") refl
 
   same_rows :
-      (rs qs : List Linear) → All (IsOver names) rs → All (IsOver names) qs →
+      (rs qs : List Linear) → All (IsOverNames names) rs → All (IsOverNames names) qs →
       rows_text names rs ≡ rows_text names qs → rs ≡ qs
   same_rows [] [] over_r over_q e = refl
   same_rows [] (q ∷ qs) over_r over_q e = absurd (no_row names q (codes "true") _ h true_bytes e)
   same_rows (r ∷ rs) [] over_r over_q e = absurd (no_row names r (codes "true") _ h true_bytes (sym e))
   same_rows (r ∷ rs) (q ∷ qs) over_r over_q e =
-      let first = All-head (IsOver names) r rs over_r in
-      let second = All-head (IsOver names) q qs over_q in
+      let first = All-head (IsOverNames names) r rs over_r in
+      let second = All-head (IsOverNames names) q qs over_q in
       let same = same_row names r q _ _ h first second e in
       let head : r ≡ q = same.0 in
-      let later = All-tail (IsOver names) r rs over_r in
-      let others = All-tail (IsOver names) q qs over_q in
+      let later = All-tail (IsOverNames names) r rs over_r in
+      let others = All-tail (IsOverNames names) q qs over_q in
       let tail : rs ≡ qs = same_later_rows rs qs later others same.1 in
       cc
 
@@ -164,11 +164,11 @@ module _ (names : List Bytes) (h : AreNames names) where
       let bytes_a = rows_bytes names h rows in
       let bytes_b = rows_bytes names h others in
       let same = same_line (rows_text names rows) (rows_text names others) _ _ bytes_a bytes_b e in
-      let first = All-head (All (IsOver names)) rows a over_a in
-      let second = All-head (All (IsOver names)) others b over_b in
+      let first = All-head (All (IsOverNames names)) rows a over_a in
+      let second = All-head (All (IsOverNames names)) others b over_b in
       let head : rows ≡ others = same_rows names h rows others first second same.0 in
-      let later_a = All-tail (All (IsOver names)) rows a over_a in
-      let later_b = All-tail (All (IsOver names)) others b over_b in
+      let later_a = All-tail (All (IsOverNames names)) rows a over_a in
+      let later_b = All-tail (All (IsOverNames names)) others b over_b in
       let tail : a ≡ b = same_lines a b later_a later_b same.1 in
       cc
 

@@ -8,7 +8,7 @@ use Rattle.std.proofs.lemmas.Bool.{eqb-true}
 use Rattle.pc_rows.specs.Linear.{Linear, is_zero}
 use Rattle.pc_text.specs.Bytes.{Bytes}
 use Rattle.pc_cert.specs.Conditions.{Part, term, constant_part, terms, part_text, sum_text, is_empty, constant_text}
-use Rattle.pc_cert.specs.Law.{AreNames, IsOver}
+use Rattle.pc_cert.specs.Law.{AreNames, IsOverNames}
 use Rattle.pc_cert.proofs.Names.{StandsAlone, all_stand_alone, all_differ}
 use Rattle.pc_cert.proofs.Sums.{sum_text-push}
 use Rattle.pc_cert.proofs.Terms.{no_times, same_term, same_constant, term_is_part, constant_is_part}
@@ -156,7 +156,7 @@ unfolding row_of
 same_linear r q constant coefficients = ap (λ c. row_of c r.coefficients) constant ∙ ap (row_of q.constant) coefficients
 
 pub same_parts :
-    (names : List Bytes) (r q : Linear) → AreNames names → IsOver names r → IsOver names q →
+    (names : List Bytes) (r q : Linear) → AreNames names → IsOverNames names r → IsOverNames names q →
     parts names r ≡ parts names q → r ≡ q
 same_parts names r q h over_r over_q e =
     let t = constant_behind (terms names r.coefficients) r.constant in

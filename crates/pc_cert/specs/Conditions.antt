@@ -72,7 +72,3 @@ line_text text = codes "suffices: " ++ text ++ codes "\n"
 abbrev pub condition_text : List Bytes → List (List Linear) → Bytes
 condition_text names [] = line_text (codes "false")
 condition_text names (rows ∷ more) = flat_map (λ rows. line_text (rows_text names rows)) (rows ∷ more)
-
--- no coefficient other than 0 from this variable on
-abbrev pub IsWithin : ℕ → Linear → Type 0
-IsWithin n r = (v : ℕ) → n ≤ v → coefficient r v ≡ pos 0

@@ -4,9 +4,9 @@ use Rattle.pc_text.specs.declared.lexeme.Form.TheVariants as form
 use Rattle.pc_text.specs.Bytes.{Bytes}
 use Rattle.pc_text.specs.Lexemes.{HasForm}
 use Rattle.pc_text.specs.Named.{AreDistinct}
-use Rattle.pc_rows.specs.Linear.{Linear}
+use Rattle.pc_rows.specs.Linear.{Linear, IsOver}
 use Rattle.pc_rows.specs.declared.row.TheConstants.{VARIABLES}
-use Rattle.pc_cert.specs.Conditions.{IsWithin, condition_text}
+use Rattle.pc_cert.specs.Conditions.{condition_text}
 
 -- words of the language that differ
 pub record AreNames (names : List Bytes) : Type 0 where
@@ -14,13 +14,13 @@ pub record AreNames (names : List Bytes) : Type 0 where
   pub distinct : AreDistinct names
 
 -- a row over these names: a coefficient for each variable, and none other than 0 past the names
-pub record IsOver (names : List Bytes) (r : Linear) : Type 0 where
+pub record IsOverNames (names : List Bytes) (r : Linear) : Type 0 where
   pub wide : length r.coefficients ≡ VARIABLES
-  pub within : IsWithin (length names) r
+  pub within : IsOver (length names) r
 
 -- a condition over these names
 abbrev pub AreOver : List Bytes → List (List Linear) → Type 0
-AreOver names = All (All (IsOver names))
+AreOver names = All (All (IsOverNames names))
 
 -- over the same names no two conditions have one text
 abbrev pub TextDeterminesCondition : Type 0

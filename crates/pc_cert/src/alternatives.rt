@@ -2,8 +2,8 @@
 
 ghost use Rattle.std.specs.Prelude.{◌≡◌, ◌<◌, ◌++◌, length, All, IfOk, OnOk, OnErr};
 ghost use Rattle.std.specs.List.{flat_map};
-ghost use Rattle.pc_cert.specs.Conditions.{IsWithin, rows_text, line_text, condition_text};
-ghost use Rattle.pc_rows.specs.Linear.{InRange};
+ghost use Rattle.pc_cert.specs.Conditions.{rows_text, line_text, condition_text};
+ghost use Rattle.pc_rows.specs.Linear.{InRange, IsOver};
 ghost use Rattle.pc_cert.specs.Law.{TextDeterminesCondition};
 
 use crate::row::push_row;
@@ -14,7 +14,7 @@ use std::alloc::Global;
 /// The texts of some rows, at least one, joined by ` && `.
 fn text_of_some(alloc: Global, rows: &Rows, names: &Names) -> Result<Text, NoMemory>
     requires some { 0 < length rows.now }
-    requires within { All (IsWithin (length names.now.names)) rows.now }
+    requires within { All (IsOver (length names.now.names)) rows.now }
     ensures { IfOk result (λ text. text ≡ rows_text names.now.names rows.now) }
 {
     let mut text = Text::new(alloc);
@@ -28,7 +28,7 @@ fn text_of_some(alloc: Global, rows: &Rows, names: &Names) -> Result<Text, NoMem
 
 /// The texts of rows, apart from other texts.
 fn text_of(alloc: Global, rows: &Rows, names: &Names) -> Result<Text, NoMemory>
-    requires { All (IsWithin (length names.now.names)) rows.now }
+    requires { All (IsOver (length names.now.names)) rows.now }
     ensures { IfOk result (λ text. text ≡ rows_text names.now.names rows.now) }
 {
     if 0 < rows.len() {
@@ -42,7 +42,7 @@ fn text_of(alloc: Global, rows: &Rows, names: &Names) -> Result<Text, NoMemory>
 /// Appends the texts of rows, joined by ` && `, or `true` where there are none. Where memory is
 /// wanting, the text stays as it was.
 pub fn push_rows(alloc: Global, text: &mut Text, rows: &Rows, names: &Names) -> Result<(), NoMemory>
-    requires { All (IsWithin (length names.now.names)) rows.now }
+    requires { All (IsOver (length names.now.names)) rows.now }
     ensures added { OnOk result (text.new ≡ text.old ++ rows_text names.now.names rows.now) }
     ensures unchanged { OnErr result (text.new ≡ text.old) }
 {
@@ -66,7 +66,7 @@ fn push_alternative(
     rows: &Rows,
     names: &Names,
 ) -> Result<(), NoMemory>
-    requires { All (IsWithin (length names.now.names)) rows.now }
+    requires { All (IsOver (length names.now.names)) rows.now }
     ensures { OnOk result (text.new ≡ text.old ++ line_text (rows_text names.now.names rows.now)) }
 {
     let rows = text_of(alloc, rows, names)?;
@@ -75,7 +75,7 @@ fn push_alternative(
 
 /// The lines of alternatives, apart from other texts.
 fn lines(alloc: Global, alternatives: &[Rows], names: &Names) -> Result<Text, NoMemory>
-    requires { All (All (IsWithin (length names.now.names))) alternatives.now }
+    requires { All (All (IsOver (length names.now.names))) alternatives.now }
     ensures { IfOk result (λ text. text ≡ flat_map (λ rows. line_text (rows_text names.now.names rows)) alternatives.now) }
 {
     let mut text = Text::new(alloc);
@@ -90,7 +90,7 @@ fn lines(alloc: Global, alternatives: &[Rows], names: &Names) -> Result<Text, No
 /// It has a line for each alternative, `suffices: ` and its rows, or the one line `suffices: false`
 /// where there is no alternative.
 pub fn condition(alloc: Global, alternatives: &[Rows], names: &Names) -> Result<Text, NoMemory>
-    requires { All (All (IsWithin (length names.now.names))) alternatives.now }
+    requires { All (All (IsOver (length names.now.names))) alternatives.now }
     ensures { IfOk result (λ text. text ≡ condition_text names.now.names alternatives.now) }
 {
     if 0 < alternatives.len() {
@@ -125,7 +125,7 @@ mod tests {
         requires constant { InRange constant }
         requires first { InRange first }
         requires second { InRange second }
-        ensures { IsWithin 2 result }
+        ensures { IsOver 2 result }
     {
         Row::of_constant(alloc, constant)
             .with(0, first)
@@ -133,9 +133,9 @@ mod tests {
     }
 
     fn rows(alloc: Global, first: Row, second: Row) -> Result<Rows, RowsFault>
-        requires first { IsWithin 2 first }
-        requires second { IsWithin 2 second }
-        ensures { IfOk result (λ rows. All (IsWithin 2) rows) }
+        requires first { IsOver 2 first }
+        requires second { IsOver 2 second }
+        ensures { IfOk result (λ rows. All (IsOver 2) rows) }
     {
         let mut rows = Rows::new(alloc);
         rows.push(first)?;

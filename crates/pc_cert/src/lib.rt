@@ -4,7 +4,9 @@
 #![tactic(auto)]
 
 mod alternatives;
+mod certificate;
 mod row;
 
 pub use alternatives::{condition, push_rows, text_determines_condition};
+pub use certificate::{Annotated, Certificate};
 pub use row::push_row;

@@ -1,8 +1,8 @@
 //! The text of a row: its terms, its constant, and ` >= 0`.
 
 ghost use Rattle.std.specs.Prelude.{◌≡◌, ◌<◌, ◌++◌, not, length, codes, IfOk, OnOk, OnErr};
-ghost use Rattle.pc_rows.specs.Linear.{is_zero, coefficient};
-ghost use Rattle.pc_cert.specs.Conditions.{sign, part_text, term, terms, is_empty, sum_text, constant_text, row_text, IsWithin};
+ghost use Rattle.pc_rows.specs.Linear.{is_zero, coefficient, IsOver};
+ghost use Rattle.pc_cert.specs.Conditions.{sign, part_text, term, terms, is_empty, sum_text, constant_text, row_text};
 
 use pc_rows::{Row, VARIABLES};
 use pc_text::{Names, NoMemory, Text};
@@ -46,7 +46,7 @@ fn push_term(text: &mut Text, is_first: bool, r: &Row, v: u32, name: &[u8]) -> R
 
 /// Appends the terms of the row, and answers whether there are none.
 fn push_terms(text: &mut Text, r: &Row, names: &Names) -> Result<bool, NoMemory>
-    requires { IsWithin (length names.now.names) r.now }
+    requires { IsOver (length names.now.names) r.now }
     ensures { IfOk result (λ none. (none ≡ is_empty (terms names.now.names r.now.coefficients))
         × (text.new ≡ text.old ++ sum_text (terms names.now.names r.now.coefficients))) }
 {
@@ -74,7 +74,7 @@ fn push_constant(text: &mut Text, is_first: bool, r: &Row) -> Result<(), NoMemor
 
 /// The text of the row, apart from other texts.
 fn text_of(alloc: Global, r: &Row, names: &Names) -> Result<Text, NoMemory>
-    requires { IsWithin (length names.now.names) r.now }
+    requires { IsOver (length names.now.names) r.now }
     ensures { IfOk result (λ text. text ≡ row_text names.now.names r.now) }
 {
     let mut text = Text::new(alloc);
@@ -90,7 +90,7 @@ fn text_of(alloc: Global, r: &Row, names: &Names) -> Result<Text, NoMemory>
 /// alone for 1 and -1; variables with the coefficient 0 have none. The constant follows where it is
 /// not 0 or there is no term. Where memory is wanting, the text stays as it was.
 pub fn push_row(alloc: Global, text: &mut Text, r: &Row, names: &Names) -> Result<(), NoMemory>
-    requires { IsWithin (length names.now.names) r.now }
+    requires { IsOver (length names.now.names) r.now }
     ensures added { OnOk result (text.new ≡ text.old ++ row_text names.now.names r.now) }
     ensures unchanged { OnErr result (text.new ≡ text.old) }
 {

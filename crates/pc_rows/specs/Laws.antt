@@ -1,6 +1,7 @@
 -- What all that stands on rows cites of them.
 use Rattle.std.specs.Prelude.{◌≡◌, ◌↔◌, ℕ, ◌+◌, ◌*◌, ◌^◌, ◌<◌, true, ℤ, pos, ◌+ℤ◌, ◌-ℤ◌, ◌*ℤ◌, neg_ℤ, ◌≤ℤ◌, ◌<ℤ◌, List, ◌++◌, length, replicate, slice_index_or}
-use Rattle.pc_rows.specs.Linear.{Linear, State, value, Meets, MeetsAll, sum_of, difference_of, scaled_by, negation, above_of, zero_from, first_of, is_number, IsNumber, coefficient, of_constant, with_coefficient, is_in_range, IsInRange}
+use Rattle.std.specs.List.{AllByRecursion}
+use Rattle.pc_rows.specs.Linear.{Linear, State, value, Meets, MeetsAll, sum_of, difference_of, scaled_by, negation, above_of, zero_from, first_of, IsOver, is_number, IsNumber, coefficient, of_constant, with_coefficient, is_in_range, IsInRange}
 use Rattle.pc_rows.specs.Bounds.{IsWithin, Within, AllWithin}
 use Rattle.pc_rows.specs.Substitution.{substituted, SubstituteFits, AllSuccessorsMeet}
 use Rattle.pc_rows.specs.Joins.{joined, is_covered, IsCovered}
@@ -88,6 +89,25 @@ JoinIsBoth = (a b : List Linear) (s : State) → MeetsAll s (joined a b) ↔ (Me
 -- a join has no number that neither list has
 abbrev pub JoinIsWithin : Type 0
 JoinIsWithin = (bound : ℕ) (a b : List Linear) → AllWithin bound a → AllWithin bound b → AllWithin bound (joined a b)
+
+-- what is left of a row without its variables from n on is over the first n
+abbrev pub FirstIsOver : Type 0
+FirstIsOver = (n : ℕ) (r : Linear) → IsOver n (first_of n r)
+
+-- a row carried back has no variable that neither it nor the form has
+abbrev pub SubstitutedIsOver : Type 0
+SubstitutedIsOver = (n : ℕ) (r form : Linear) (x : ℕ) (lo hi : ℤ) → IsOver n r → IsOver n form → IsOver n (substituted r x form lo hi)
+
+-- a difference has no variable that neither row has
+abbrev pub DifferenceIsOver : Type 0
+DifferenceIsOver = (n : ℕ) (a b : Linear) → IsOver n a → IsOver n b → IsOver n (difference_of a b)
+
+abbrev pub NegationIsOver : Type 0
+NegationIsOver = (n : ℕ) (r : Linear) → IsOver n r → IsOver n (negation r)
+
+-- a join has no row that neither list has
+abbrev pub JoinIsOver : Type 0
+JoinIsOver = (n : ℕ) (a b : List Linear) → AllByRecursion (IsOver n) a → AllByRecursion (IsOver n) b → AllByRecursion (IsOver n) (joined a b)
 
 -- a row is carried back without leaving the range where its numbers, those of the form and both ends are small
 abbrev pub SmallSubstitutionFits : Type 0

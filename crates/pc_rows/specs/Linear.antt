@@ -1,5 +1,5 @@
 -- Linear rows over the variables, with unbounded integers: what they say of a state, and their sums and multiples.
-use Rattle.std.specs.Prelude.{◌≡◌, ◌==◌, ◌&&◌, ℕ, zero, suc, ◌<◌, ◌^◌, nat_lt, Bool, false, ℤ, pos, negsuc, ◌+ℤ◌, ◌-ℤ◌, ◌*ℤ◌, neg_ℤ, ◌≤ℤ◌, unsigned_abs, List, [], ◌∷◌, length, replicate, slice_set, slice_index_or, Result, Ok, Err, if◌then◌else◌, ◌⊎◌}
+use Rattle.std.specs.Prelude.{◌≡◌, ◌==◌, ◌&&◌, ℕ, zero, suc, ◌<◌, ◌≤◌, ◌^◌, nat_lt, Bool, false, ℤ, pos, negsuc, ◌+ℤ◌, ◌-ℤ◌, ◌*ℤ◌, neg_ℤ, ◌≤ℤ◌, unsigned_abs, List, [], ◌∷◌, length, replicate, slice_set, slice_index_or, Result, Ok, Err, if◌then◌else◌, ◌⊎◌}
 use Rattle.std.specs.List.{AllByRecursion, list_all}
 use Rattle.pc_rows.specs.declared.row.TheConstants.{VARIABLES}
 
@@ -107,6 +107,10 @@ zero_from (suc n) (a ∷ as') = a ∷ zero_from n as'
 -- the row with 0 as its coefficient at every variable from number n on
 abbrev pub first_of : ℕ → Linear → Linear
 first_of n r = record { constant = r.constant; coefficients = zero_from n r.coefficients }
+
+-- a row over the first n variables: no coefficient is other than 0 from variable n on
+abbrev pub IsOver : ℕ → Linear → Type 0
+IsOver n r = (v : ℕ) → n ≤ v → coefficient r v ≡ pos 0
 
 -- a row without variables: no coefficient is other than 0
 abbrev pub IsNumber : Linear → Type 0

@@ -1,7 +1,7 @@
 //! What all that stands on rows cites of them. Each law is the contract of a function that does
 //! nothing.
 
-ghost use Rattle.pc_rows.specs.Laws.{ValueOfConstant, ValueOfCoefficient, ValueAtZero, ValueOfSum, ValueOfDifference, ValueOfMultiple, ValueOfNegation, NegationIsExact, ValueOfAbove, AboveIsExact, ValueOfFirst, ZeroFromEntry, ValueAtEntry, ValueOfNumber, NumberIsMeant, SubstitutionIsExact, CoveringIsMeant, CoveredIsMet, JoinIsBoth, JoinIsWithin, SmallSubstitutionFits, RangeIsMeant, ShownIsMet, RefutedIsNotShown};
+ghost use Rattle.pc_rows.specs.Laws.{ValueOfConstant, ValueOfCoefficient, ValueAtZero, ValueOfSum, ValueOfDifference, ValueOfMultiple, ValueOfNegation, NegationIsExact, ValueOfAbove, AboveIsExact, ValueOfFirst, ZeroFromEntry, ValueAtEntry, ValueOfNumber, NumberIsMeant, SubstitutionIsExact, CoveringIsMeant, CoveredIsMet, JoinIsBoth, JoinIsWithin, SmallSubstitutionFits, FirstIsOver, SubstitutedIsOver, DifferenceIsOver, NegationIsOver, JoinIsOver, RangeIsMeant, ShownIsMet, RefutedIsNotShown};
 
 /// The values of rows at a state.
 pub fn row_values()
@@ -52,6 +52,15 @@ pub fn join_is_both()
 pub fn bounds_are_kept()
     ensures join { JoinIsWithin }
     ensures substitution { SmallSubstitutionFits }
+{}
+
+/// No operation brings a variable that its rows have not.
+pub fn variables_are_kept()
+    ensures first { FirstIsOver }
+    ensures substitution { SubstitutedIsOver }
+    ensures difference { DifferenceIsOver }
+    ensures negation { NegationIsOver }
+    ensures join { JoinIsOver }
 {}
 
 /// A goal that a proof shows is met where the premises are.

@@ -131,9 +131,3 @@ impl Number {
         self.n <= other.n
     }
 }
-
-impl Default for Number {
-    fn default() -> Number {
-        Number { n: 0 }
-    }
-}
