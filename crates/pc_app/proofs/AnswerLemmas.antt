@@ -183,6 +183,7 @@ script_verdict held of_source of_script p status text old new e spells file writ
     by_script : ScriptAnswers p.names.params (RunAnswers p) of_script status text → PrintedVerdict of_source of_script status old new
     by_script (IsMalformed f faulty s t) = absurd (omega arith)
     by_script (IsScript c means r) = verdict_by of_source of_script p c status text old new spells means r written
+
     by : ((SCRIPT_BYTES < length of_script) × (status ≡ TOO_LONG)) ⊎ ((length of_script ≤ SCRIPT_BYTES) × ScriptAnswers p.names.params (RunAnswers p) of_script status text) → PrintedVerdict of_source of_script status old new
     by (inl h) = let l = h.1 in absurd (omega arith)
     by (inr h) = by_script h.1
@@ -199,6 +200,7 @@ source_verdict held_source held_script of_source status text old new e file writ
         of_bytes (λ of_script. PrintedVerdict of_source of_script status old new) held_script
         (λ of_script e'. script_verdict held_script of_source of_script p status text old new e' spells r written told)
         (λ e'. of_nothing _ _ _ held_script status text e' r)
+
     by : ((SOURCE_BYTES < length of_source) × (status ≡ TOO_LONG)) ⊎ ((length of_source ≤ SOURCE_BYTES) × SourceAnswers (λ p status text. OnScript p.names.params (RunAnswers p) held_script status text) of_source status text) →
         OfBytes (λ of_script. PrintedVerdict of_source of_script status old new) held_script
     by (inl h) = let l = h.1 in absurd (omega arith)

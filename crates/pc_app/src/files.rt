@@ -38,11 +38,7 @@ fn bytes_in<S: Store>(
 }
 
 /// The program that a file spells.
-pub(crate) fn source_in<S: Store>(
-    alloc: Global,
-    name: &str,
-    store: &mut S,
-) -> Result<Program, Stop>
+pub(crate) fn source_in<S: Store>(alloc: Global, name: &str, store: &mut S) -> Result<Program, Stop>
     ensures answered { SourceIs (S.holding store.old name.now) (S.faults store.old) (S.faults store.new) result }
     ensures counted { S.faults store.old ≤ S.faults store.new }
     ensures kept { (n : List ℕ) → S.holding store.new n ≡ S.holding store.old n }

@@ -33,7 +33,7 @@ pub fn serve<S: Store, K: Sink>(alloc: Global, words: &[String], store: &mut S, 
     // Words `run F S`: the verdict on the machine's run of the program of F over the choices of S.
     ensures verdict { (source script : List ℕ) → IsRun (map string_bytes words.now) source script → IsVerdict result →
         OfBytes (λ of_source. OfBytes (λ of_script. PrintedVerdict of_source of_script result (K.written out.old) (K.written out.new))
-            (S.holding store.old script)) (S.holding store.old source) }
+        (S.holding store.old script)) (S.holding store.old source) }
 
     // Each answer is written whole.
     ensures answered { IsAnswered result →
