@@ -1,6 +1,6 @@
 -- What the context rules say of comparisons, tests and statements, as the code that makes rows and edges needs it.
-use Rattle.std.proofs.Common.{◌≡◌, ℕ, ◌+◌, ◌*◌, ◌≤◌, List, [], ◌∷◌, ◌++◌, length, Bool, true, false, refl, sym, ap, ◌∙◌, arith, length-append}
-use Rattle.std.specs.Prelude.{◌&&◌, not, nat_le, nat_lt}
+use Rattle.std.proofs.Common.{◌≡◌, ℕ, ◌*◌, ◌≤◌, List, [], ◌∷◌, ◌++◌, length, Bool, true, refl, sym, ap, ◌∙◌, arith, length-append}
+use Rattle.std.specs.Prelude.{◌&&◌, not, nat_le}
 use Rattle.std.specs.List.{list_all}
 use Rattle.std.proofs.lemmas.Bool.Decides.{nat_tests}
 use Rattle.pc_text.specs.declared.place.Place.{Place}
@@ -9,9 +9,8 @@ use Rattle.pc_grammar.specs.declared.tree.Op.TheVariants as op
 use Rattle.pc_rows.specs.Linear.{Linear}
 use Rattle.pc_grammar.specs.declared.limits.TheConstants.{COMPARISONS}
 use Rattle.pc_syntax.specs.Forms.{is_unequal, has_rows, row_fits, rows_by, rows_of, rows_all, form}
-use Rattle.pc_syntax.specs.Sane.{sane_expr, sane_compare, sane_each, sane_all, sane_test, sane_right, sane_step, sane_stmt, sane_stmts, has_sane_rows}
+use Rattle.pc_syntax.specs.Sane.{sane_expr, sane_compare, sane_each, sane_all, sane_test, sane_step, sane_stmt, sane_stmts, has_sane_rows}
 use Rattle.pc_syntax.specs.declared.tree.Compare.{Compare}
-use Rattle.pc_syntax.specs.declared.tree.Right.{Right}
 use Rattle.pc_syntax.specs.declared.tree.Test.{Test}
 use Rattle.pc_syntax.specs.declared.tree.Test.TheVariants as test
 use Rattle.pc_syntax.specs.declared.tree.Stmt.{Stmt, fold-roll-Stmt}
