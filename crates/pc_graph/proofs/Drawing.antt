@@ -1,5 +1,5 @@
 -- What the code of the rules makes is what the rules make.
-use Rattle.std.proofs.Common.{◌≡◌, ℕ, ◌+◌, ◌-◌, ◌<◌, ◌^◌, List, [], ◌∷◌, length, Bool, true, false, refl, sym, ap, subst, ◌∙◌, arith, map, drop, append_assoc, get_or}
+use Rattle.std.proofs.Common.{◌≡◌, ℕ, ◌+◌, ◌<◌, ◌^◌, List, [], ◌∷◌, length, Bool, true, false, refl, sym, ap, subst, ◌∙◌, arith, map, drop, append_assoc, get_or}
 use Rattle.std.specs.Prelude.{slice_get, Some}
 use Rattle.std.specs.List.{list_all}
 use Rattle.pc_text.specs.declared.place.Place.{Place}
@@ -57,10 +57,7 @@ if_next : (place : Place) (t : Condition) (xs ys : List Stmt) (p n : ℕ) →
     (rule (If place t xs ys) p n).next ≡ (rules ys (rules xs n (n + 1)).next ((rules xs n (n + 1)).next + 1)).next + 1
 if_next place t xs ys p n = rw (if_is place t xs ys) refl
 
-while_next : (place : Place) (t : Condition) (tried : List Compare) (xs : List Stmt) (p n : ℕ) → (rule (While place t tried xs) p n).next ≡ (rules xs n (n + 1)).next + 1
-while_next place t tried xs p n = rw (while_is place t tried xs) refl
-
--- the room of an `if` is room for its first block, for its second, and for the point after them
+-- the room of an `if` is room for its first block
 pub then_room : (place : Place) (t : Condition) (xs ys : List Stmt) (g : Drawn) → (rule (If place t xs ys) g.at g.next).next < 2 ^ 32 →
     (rules xs g.next (g.next + 1)).next < 2 ^ 32
 then_room place t xs ys g room =
@@ -68,28 +65,6 @@ then_room place t xs ys g room =
     let first = rules xs g.next (g.next + 1) in
     let more = list_grows ys first.next (first.next + 1) in
     omega arith
-
-pub else_room : (place : Place) (t : Condition) (xs ys : List Stmt) (g g1 : Drawn) (p : ℕ) →
-    g1 ≡ extended (branched p place (ways t true) false g) (rules xs g.next (g.next + 1)) →
-    (rule (If place t xs ys) g.at g.next).next < 2 ^ 32 → (rules ys g1.next (g1.next + 1)).next + 1 < 2 ^ 32
-else_room place t xs ys g g1 p h1 room =
-    let next = if_next place t xs ys g.at g.next in
-    rw h1 (omega arith)
-
-pub join_room : (place : Place) (t : Condition) (xs ys : List Stmt) (g g1 g2 : Drawn) (p : ℕ) →
-    g1 ≡ extended (branched p place (ways t true) false g) (rules xs g.next (g.next + 1)) →
-    g2 ≡ extended (branched p place (ways t false) false g1) (rules ys g1.next (g1.next + 1)) →
-    (rule (If place t xs ys) g.at g.next).next < 2 ^ 32 → g2.next < 2 ^ 32 - 1
-join_room place t xs ys g g1 g2 p h1 h2 room =
-    let more = else_room place t xs ys g g1 p h1 room in
-    rw h2 (omega arith)
-
--- and that of a `while` is room for its block and for the point after it
-pub body_room : (place : Place) (t : Condition) (tried : List Compare) (xs : List Stmt) (rows : List Linear) (g g0 : Drawn) → g0 ≡ headed rows g →
-    (rule (While place t tried xs) g.at g.next).next < 2 ^ 32 → (rules xs g0.next (g0.next + 1)).next + 1 < 2 ^ 32
-body_room place t tried xs rows g g0 h0 room =
-    let next = while_next place t tried xs g.at g.next in
-    rw h0 (omega arith)
 
 -- ---- a list of statements, of which the first are done
 
