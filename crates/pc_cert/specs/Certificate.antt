@@ -5,7 +5,7 @@ use Rattle.pc_rows.specs.declared.row.TheConstants.{VARIABLES}
 use Rattle.pc_rows.specs.declared.system.TheConstants.{PREMISES}
 use Rattle.pc_rows.specs.Linear.{Linear, IsOver}
 use Rattle.pc_rows.specs.Joins.{IsRows}
-use Rattle.pc_rows.specs.Evidence.{Proof, IsProof}
+use Rattle.pc_rows.specs.Evidence.{IsProof}
 use Rattle.pc_cert.specs.declared.certificate.Annotated.{Annotated}
 use Rattle.pc_cert.specs.declared.certificate.TheConstants.{POINTS, EDGES, ALTERNATIVES}
 

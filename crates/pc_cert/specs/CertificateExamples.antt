@@ -1,5 +1,5 @@
 -- Texts of certificates worked by hand.
-use Rattle.std.specs.Prelude.{◌≡◌, ℕ, ℤ, pos, negsuc, List, [], ◌∷◌, ◌++◌, codes, refl}
+use Rattle.std.specs.Prelude.{◌≡◌, ℕ, ℤ, pos, negsuc, List, [], ◌∷◌, codes, refl}
 use Rattle.pc_text.specs.Numerals.{numeral}
 use Rattle.pc_rows.specs.declared.proof.Part.{Part}
 use Rattle.pc_rows.specs.Linear.{Linear}
@@ -44,8 +44,13 @@ unfolding numeral
 goal_alone = refl
 
 condition_at_point_0 :
-    condition_of (record { points = 2; edges = 0; variables = 1; alternatives =
-        record { rows = (row (pos 3) (negsuc 0 ∷ []) ∷ []) ∷ [] ∷ []; proofs = [] }
-        ∷ record { rows = [] ∷ (row (pos 1) (pos 1 ∷ []) ∷ []) ∷ []; proofs = [] } ∷ [] })
+    condition_of (record {
+      points = 2;
+      edges = 0;
+      variables = 1;
+      alternatives =
+          record { rows = (row (pos 3) (negsuc 0 ∷ []) ∷ []) ∷ [] ∷ []; proofs = [] }
+          ∷ record { rows = [] ∷ (row (pos 1) (pos 1 ∷ []) ∷ []) ∷ []; proofs = [] } ∷ [];
+    })
     ≡ (row (pos 3) (negsuc 0 ∷ []) ∷ []) ∷ [] ∷ []
 condition_at_point_0 = refl
