@@ -1,0 +1,7 @@
+pub mod Condition
+pub mod Shape
+pub mod Ranges
+pub mod Flaws
+pub mod Rule
+pub mod Accepts
+pub mod Laws
