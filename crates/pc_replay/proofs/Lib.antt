@@ -1,0 +1,5 @@
+pub mod Alls
+pub mod Fitting
+pub mod Flawless
+pub mod Shaped
+pub mod Ruled

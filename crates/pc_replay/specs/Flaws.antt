@@ -1,6 +1,6 @@
 -- What is wrong with a proof of a row that an edge owes: the first of its flaws, in the order of the rule.
 use Rattle.std.specs.Prelude.{ℕ, ◌+◌, nat_lt, ◌&&◌, Bool, pos, int_le, List, [], ◌∷◌, ◌++◌, length, Option, Some, None, if◌then◌else◌}
-use Rattle.std.specs.List.{list_all, position}
+use Rattle.std.specs.List.{list_all, position_from}
 use Rattle.std.specs.Prelude.{not}
 use Rattle.pc_rows.specs.Linear.{Linear, is_zero}
 use Rattle.pc_rows.specs.Evidence.{Proof}
@@ -30,7 +30,7 @@ flaw_by (Some v) is_below = Some (Left v)
 flaw_by None is_below = needs is_below (Some NotBelow) None
 
 abbrev pub flaw_of_total : Linear → Option Flaw
-flaw_of_total r = flaw_by (position (λ c. not (is_zero c)) r.coefficients) (not (int_le (pos 0) r.constant))
+flaw_of_total r = flaw_by (position_from (λ c. not (is_zero c)) 0 r.coefficients) (not (int_le (pos 0) r.constant))
 
 -- what is wrong with a proof that is to show the goal from the premises
 abbrev pub flaw : List Linear → Linear → Proof → Option Flaw

@@ -1,6 +1,6 @@
 -- The shape that a certificate is to have.
 use Rattle.std.specs.Prelude.{◌≡◌, ◌==◌, ◌&&◌, not, ℕ, Bool, List, length, drop, Option}
-use Rattle.std.specs.List.{AllByRecursion, list_all, position}
+use Rattle.std.specs.List.{AllByRecursion, list_all, position_from}
 use Rattle.pc_rows.specs.Linear.{Linear, IsOver, is_zero}
 use Rattle.pc_graph.specs.Flow.{Flow}
 use Rattle.pc_cert.specs.declared.certificate.Annotated.{Annotated}
@@ -37,4 +37,4 @@ has_shape g c =
 
 -- the first row with a variable from number n on
 abbrev pub first_beyond : ℕ → List Linear → Option ℕ
-first_beyond n rows = position (λ r. not (is_over n r)) rows
+first_beyond n rows = position_from (λ r. not (is_over n r)) 0 rows
