@@ -25,14 +25,14 @@ weight x = fold-Stmt ℕ weight_step x
 abbrev pub weights : List Stmt → ℕ
 weights xs = 1 + total (map weight xs)
 
-pub then_smaller : (x : Stmt) (p : Place) (t : Test) (xs ys zs : List Stmt) → x ≡ If p t xs ys → zs ≡ xs → weights zs < weight x
-then_smaller x p t xs ys zs e s = rw (s, e) (let w = ap weight (sym (rolls-If p t xs ys)) ∙ fold-roll-Stmt ℕ weight_step (stmt.If p t xs ys) in omega arith)
+pub then_smaller : (p : Place) (t : Test) (xs ys : List Stmt) → weights xs < weight (If p t xs ys)
+then_smaller p t xs ys = let w = ap weight (sym (rolls-If p t xs ys)) ∙ fold-roll-Stmt ℕ weight_step (stmt.If p t xs ys) in omega arith
 
-pub else_smaller : (x : Stmt) (p : Place) (t : Test) (xs ys zs : List Stmt) → x ≡ If p t xs ys → zs ≡ ys → weights zs < weight x
-else_smaller x p t xs ys zs e s = rw (s, e) (let w = ap weight (sym (rolls-If p t xs ys)) ∙ fold-roll-Stmt ℕ weight_step (stmt.If p t xs ys) in omega arith)
+pub else_smaller : (p : Place) (t : Test) (xs ys : List Stmt) → weights ys < weight (If p t xs ys)
+else_smaller p t xs ys = let w = ap weight (sym (rolls-If p t xs ys)) ∙ fold-roll-Stmt ℕ weight_step (stmt.If p t xs ys) in omega arith
 
-pub body_smaller : (x : Stmt) (p : Place) (t : Test) (tried : List Compare) (xs zs : List Stmt) → x ≡ While p t tried xs → zs ≡ xs → weights zs < weight x
-body_smaller x p t tried xs zs e s = rw (s, e) (let w = ap weight (sym (rolls-While p t tried xs)) ∙ fold-roll-Stmt ℕ weight_step (stmt.While p t tried xs) in omega arith)
+pub body_smaller : (p : Place) (t : Test) (tried : List Compare) (xs : List Stmt) → weights xs < weight (While p t tried xs)
+body_smaller p t tried xs = let w = ap weight (sym (rolls-While p t tried xs)) ∙ fold-roll-Stmt ℕ weight_step (stmt.While p t tried xs) in omega arith
 
 weight_at : (xs : List Stmt) (i : ℕ) (x : Stmt) → i < length xs → weight (get_or xs i x) ≤ total (map weight xs)
 weight_at [] i x l = absurd (omega arith)
