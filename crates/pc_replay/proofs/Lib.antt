@@ -3,3 +3,4 @@ pub mod Fitting
 pub mod Flawless
 pub mod Shaped
 pub mod Ruled
+pub mod Sound

@@ -16,10 +16,9 @@ use Rattle.pc_replay.specs.declared.flaw.Flaw.{Flaw}
 use Rattle.pc_replay.specs.declared.flaw.Flaw.TheVariants as flaw
 use Rattle.pc_replay.specs.declared.ruling.Ruling.{Ruling}
 use Rattle.pc_replay.specs.declared.ruling.Ruling.TheVariants as answer
-use Rattle.pc_replay.specs.Condition.{rows_at}
 use Rattle.pc_replay.specs.Shape.{first_beyond, has_shape}
 use Rattle.pc_replay.specs.Flaws.{needs, asked, row_flaw}
-use Rattle.pc_replay.specs.Rule.{told, first_of, first_ruling, refusal, premises, edge_ruling, alternative_ruling}
+use Rattle.pc_replay.specs.Rule.{rows_at, told, first_of, first_ruling, refusal, premises, edge_ruling, alternative_ruling}
 use Rattle.pc_replay.specs.Accepts.{RowProved, EdgeProved, AlternativeProved}
 use Rattle.pc_replay.specs.Laws.{RuleIsMeant, OwedIsAsked}
 use Rattle.pc_replay.proofs.Flawless.{flaws_are_meant}

@@ -10,9 +10,8 @@ use Rattle.pc_graph.specs.Carry.{BackFits, back, owes}
 use Rattle.pc_graph.specs.Flow.{Flow}
 use Rattle.pc_cert.specs.declared.certificate.Annotated.{Annotated}
 use Rattle.pc_cert.specs.Certificate.{Certificate}
-use Rattle.pc_replay.specs.Condition.{rows_at}
 use Rattle.pc_replay.specs.Flaws.{asked}
-use Rattle.pc_replay.specs.Rule.{premises}
+use Rattle.pc_replay.specs.Rule.{rows_at, premises}
 use Rattle.pc_replay.specs.Shape.{HasShape}
 
 -- a proof shows the goal from the premises, and all that is computed for its total is in range

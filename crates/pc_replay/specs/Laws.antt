@@ -12,10 +12,9 @@ use Rattle.pc_graph.specs.Flow.{Flow}
 use Rattle.pc_graph.specs.Lowering.{graph}
 use Rattle.pc_graph.specs.Shape.{IsGraph}
 use Rattle.pc_graph.specs.Walk.{IsEntry, GraphSafe}
-use Rattle.pc_cert.specs.Certificate.{Certificate}
 use Rattle.pc_replay.specs.declared.ruling.Ruling.TheVariants.{Accepted}
 use Rattle.pc_replay.specs.Accepts.{Accepts, RowProved}
-use Rattle.pc_replay.specs.Condition.{condition_of}
+use Rattle.pc_cert.specs.Certificate.{Certificate, condition_of}
 use Rattle.pc_replay.specs.Flaws.{asked, row_flaw}
 use Rattle.pc_replay.specs.Rule.{ruling}
 

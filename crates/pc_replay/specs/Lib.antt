@@ -1,4 +1,3 @@
-pub mod Condition
 pub mod Shape
 pub mod Ranges
 pub mod Flaws

@@ -1,5 +1,5 @@
 -- The rule of the replayer: the first refusal, in its order.
-use Rattle.std.specs.Prelude.{◌==◌, ℕ, ◌+◌, List, [], ◌∷◌, ◌++◌, length, Option, Some, None}
+use Rattle.std.specs.Prelude.{◌==◌, ℕ, ◌+◌, List, [], ◌∷◌, ◌++◌, length, slice_index_or, Option, Some, None}
 use Rattle.std.specs.List.{zip}
 use Rattle.pc_rows.specs.Linear.{Linear}
 use Rattle.pc_rows.specs.Evidence.{Proof}
@@ -13,9 +13,12 @@ use Rattle.pc_replay.specs.declared.flaw.Flaw.{Flaw}
 use Rattle.pc_replay.specs.declared.flaw.Flaw.TheVariants as flaw
 use Rattle.pc_replay.specs.declared.ruling.Ruling.{Ruling}
 use Rattle.pc_replay.specs.declared.ruling.Ruling.TheVariants as answer
-use Rattle.pc_replay.specs.Condition.{rows_at}
 use Rattle.pc_replay.specs.Shape.{first_beyond, has_shape}
 use Rattle.pc_replay.specs.Flaws.{needs, asked, row_flaw}
+
+-- the rows of a point
+abbrev pub rows_at : Annotated → ℕ → List Linear
+rows_at a p = slice_index_or a.rows p []
 
 -- how a flaw at row k of edge e of alternative a is told
 abbrev pub told : ℕ → ℕ → ℕ → Flaw → Ruling

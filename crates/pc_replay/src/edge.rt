@@ -3,7 +3,6 @@
 ghost use Rattle.std.specs.Prelude.{◌≡◌, ◌<◌, ◌≤◌, ◌*◌, ◌++◌, length, slice_get, Some};
 ghost use Rattle.pc_graph.specs.Carry.{test_rows, owes};
 ghost use Rattle.pc_replay.specs.Flaws.{asked, row_flaw};
-ghost use Rattle.pc_replay.specs.Condition.{rows_at};
 ghost use Rattle.pc_replay.specs.Rule.{edge_ruling};
 
 use crate::flaw::Flaw;
