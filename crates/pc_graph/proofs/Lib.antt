@@ -13,6 +13,7 @@ pub mod Ready
 pub mod Growing
 pub mod Drawing
 pub mod Weights
+pub mod Variables
 pub mod Shapes
 pub mod Counts
 pub mod Graphs

@@ -1,5 +1,5 @@
 -- What graphs say of their programs, and of those without tests and loops.
-use Rattle.std.specs.Prelude.{◌≡◌, ℤ, List, [], ◌∷◌, Bool, true, false, ◌&&◌, map, length}
+use Rattle.std.specs.Prelude.{◌≡◌, ℤ, List, Bool, true, false, ◌&&◌, map, length}
 use Rattle.std.specs.List.{AllByRecursion as Each}
 use Rattle.pc_text.specs.declared.place.Place.{Place}
 use Rattle.pc_rows.specs.Linear.{MeetsAll}
