@@ -1,158 +1,146 @@
 -- What follows from how files, sources and words are answered.
-use Rattle.std.proofs.Common.{◌≡◌, ◌∙◌, ◌↔◌, ap, sym, true, Ok, Err, subst, ℕ, ◌<◌, ◌≤◌, List, length, Option, arith, ◌⊎◌, inl, inr, refl}
-use Rattle.pc_ports.specs.Outside.{Holding, Untold, Nothing, Held, Appended}
+use Rattle.std.proofs.Common.{◌≡◌, ◌≢◌, ◌∙◌, ◌↔◌, ap, sym, Ok, Err, Some, None, subst, ℕ, ◌<◌, ◌≤◌, List, length, arith, ◌⊎◌, inl, inr, refl}
+use Rattle.pc_ports.specs.Outside.{Holding, Untold, Nothing, Held}
 use Rattle.pc_text.specs.Bytes.{Bytes}
+use Rattle.pc_text.specs.declared.place.Place.{Place}
 use Rattle.pc_syntax.specs.declared.program.Program.{Program}
+use Rattle.pc_syntax.specs.Loops.{first, whiles_of}
 use Rattle.pc_syntax.specs.Spelling.{Spells, Faulty}
 use Rattle.pc_syntax.specs.Context.{Content}
 use Rattle.pc_syntax.specs.declared.fault.SourceFault.{SourceFault}
 use Rattle.pc_syntax.proofs.Readings.{each_text_has_no_more}
+use Rattle.pc_cert.specs.Certificate.{Certificate}
+use Rattle.pc_cert.specs.CertificateTexts.{IsTextOf}
+use Rattle.pc_replay.specs.declared.ruling.Ruling.{Ruling}
+use Rattle.pc_replay.specs.declared.ruling.Ruling.TheVariants as ruling
 use Rattle.pc_runner.specs.Scripts.{Choosing, script_of}
 use Rattle.pc_runner.specs.declared.verdict.Verdict.{Verdict}
 use Rattle.pc_runner.specs.declared.verdict.Verdict.TheVariants as verdict
-use Rattle.pc_app.specs.declared.status.TheConstants.{DONE, USAGE, REFUSED, MALFORMED, TOO_LONG, VIOLATED, PAST}
-use Rattle.pc_app.specs.declared.limits.TheConstants.{SOURCE_BYTES, SCRIPT_BYTES}
-use Rattle.pc_app.specs.Words.{Order, Infer, Run, IsOrder, IsPlain, IsInfer, words_of}
+use Rattle.pc_app.specs.declared.status.TheConstants.{DONE, USAGE, REFUSED, MALFORMED, TOO_LONG, FAILED, PAST}
+use Rattle.pc_app.specs.declared.limits.TheConstants.{SOURCE_BYTES}
+use Rattle.pc_app.specs.Analysed.{IsAnalysed}
+use Rattle.pc_app.specs.Rulings.{ruling_status}
 use Rattle.pc_app.specs.Verdicts.{verdict_status}
-use Rattle.pc_app.specs.Answers.{MayHold, Answers, FileAnswers, SourceAnswers, ScriptAnswers, InferAnswers, RunAnswers, OnSource, OnScript, OrderAnswers}
+use Rattle.pc_app.specs.Words.{Order, Infer, Certify, Replay, Run, Show, IsOrder, IsPlain, words_of}
+use Rattle.pc_app.specs.Answers.{MayHold, Answers, FileAnswers, SourceAnswers, ScriptAnswers, CertificateAnswers, AnalysisAnswers, OnSource, OnScript, OnCertificate, OnReplay, OnRun, OrderAnswers}
 use Rattle.pc_app.specs.Answers.Answers.{Unknown, Known}
 use Rattle.pc_app.specs.Answers.FileAnswers.{IsTooLong, IsShort}
 use Rattle.pc_app.specs.Answers.SourceAnswers.{IsFaulty, IsSpelled}
-use Rattle.pc_app.specs.Answers.ScriptAnswers.{IsMalformed, IsScript}
-use Rattle.pc_app.specs.Answers.InferAnswers.{IsNotBuilt, HasCondition}
-use Rattle.pc_app.specs.Built.{IsAnalysed}
-use Rattle.pc_app.specs.Line.{is_line}
-use Rattle.pc_app.specs.Promises.{OfBytes, PrintedIsExact, PrintedVerdict, IsVerdict, IsAnswered}
-use Rattle.pc_app.proofs.StmtLemmas.{not_built_is_no_line}
+use Rattle.pc_app.specs.Answers.ScriptAnswers.{IsNoScript, IsScript}
+use Rattle.pc_app.specs.Answers.CertificateAnswers.{IsNoCertificate, IsCertificate}
+use Rattle.pc_app.specs.Answers.AnalysisAnswers as analysis
+use Rattle.pc_app.specs.Promises.{OfBytes, IsAnswered}
 
--- the statuses with which an order is answered
+-- ---- the statuses with which an order is answered
 
-record Usual (status : ℕ) : Type 0 where
-  answered : IsAnswered status
-  known : status ≡ USAGE → ⊥
+pub record Usual (status : ℕ) : Type 0 where
+  pub answered : IsAnswered status
+  pub known : status ≡ USAGE → ⊥
 
-usual : (status : ℕ) → (status ≡ DONE) ⊎ ((status ≡ VIOLATED) ⊎ ((status ≡ REFUSED) ⊎ ((status ≡ MALFORMED) ⊎ ((status ≡ TOO_LONG) ⊎ (status ≡ PAST))))) → Usual status
+usual : (status : ℕ) → (status ≡ DONE) ⊎ ((status ≡ FAILED) ⊎ ((status ≡ REFUSED) ⊎ ((status ≡ MALFORMED) ⊎ ((status ≡ TOO_LONG) ⊎ (status ≡ PAST))))) → Usual status
 usual status h = record { answered = (omega arith, omega arith, omega arith); known = λ u. omega arith }
 
-file_usual : (limit : ℕ) (long : Bytes) (A : Bytes → ℕ → Bytes → Type 0) (held : Holding) (status : ℕ) (text : Bytes) →
-    ((bytes : Bytes) → A bytes status text → Usual status) → FileAnswers limit long A held status text → Usual status
-file_usual limit long A held status text f (IsTooLong bytes holds more s t) = usual status (inr (inr (inr (inr (inl s)))))
-file_usual limit long A held status text f (IsShort bytes holds short a) = f bytes a
+module _ (status : ℕ) (text : Bytes) where
+  file_usual : (limit : ℕ) (long : Bytes) (A : Bytes → ℕ → Bytes → Type 0) (held : Holding) → ((bytes : Bytes) → A bytes status text → Usual status) → FileAnswers limit long A held status text → Usual status
+  file_usual limit long A held f (IsTooLong bytes holds more s t) = usual status (inr (inr (inr (inr (inl s)))))
+  file_usual limit long A held f (IsShort bytes holds short a) = f bytes a
 
-source_usual : (A : Program → ℕ → Bytes → Type 0) (status : ℕ) (text : Bytes) → ((p : Program) → A p status text → Usual status) → (bytes : Bytes) → SourceAnswers A bytes status text → Usual status
-source_usual A status text f bytes (IsFaulty fault faulty s t) = usual status (inr (inr (inl s)))
-source_usual A status text f bytes (IsSpelled p spells a) = f p a
+  source_usual : (A : Program → ℕ → Bytes → Type 0) → ((p : Program) → A p status text → Usual status) → (bytes : Bytes) → SourceAnswers A bytes status text → Usual status
+  source_usual A f bytes (IsFaulty fault faulty s t) = usual status (inr (inr (inl s)))
+  source_usual A f bytes (IsSpelled p spells a) = f p a
 
-script_usual : (params : ℕ) (A : Choosing → ℕ → Bytes → Type 0) (status : ℕ) (text : Bytes) → ((c : Choosing) → A c status text → Usual status) →
-    (bytes : Bytes) → ScriptAnswers params A bytes status text → Usual status
-script_usual params A status text f bytes (IsMalformed fault faulty s t) = usual status (inr (inr (inr (inl s))))
-script_usual params A status text f bytes (IsScript c means a) = f c a
+  script_usual : (params : ℕ) (A : Choosing → ℕ → Bytes → Type 0) → ((c : Choosing) → A c status text → Usual status) → (bytes : Bytes) → ScriptAnswers params A bytes status text → Usual status
+  script_usual params A f bytes (IsNoScript fault faulty s t) = usual status (inr (inr (inr (inl s))))
+  script_usual params A f bytes (IsScript c means a) = f c a
 
-infer_usual : (status : ℕ) (text : Bytes) (p : Program) → InferAnswers p status text → Usual status
-infer_usual status text p (IsNotBuilt place first s t) = usual status (inr (inr (inl s)))
-infer_usual status text p (HasCondition line condition inferred s t) = usual status (inl s)
+  certificate_usual : (A : Certificate → ℕ → Bytes → Type 0) → ((c : Certificate) → A c status text → Usual status) → (bytes : Bytes) → CertificateAnswers A bytes status text → Usual status
+  certificate_usual A f bytes (IsNoCertificate fault faulty s t) = usual status (inr (inr (inr (inl s))))
+  certificate_usual A f bytes (IsCertificate c is a) = f c a
 
-verdict_usual : (status : ℕ) (v : Verdict) → status ≡ verdict_status v → Usual status
-verdict_usual status (verdict.Violated n p) s = usual status (inr (inl s))
-verdict_usual status (verdict.Blocked n p) s = usual status (inl s)
-verdict_usual status (verdict.Ended n) s = usual status (inl s)
-verdict_usual status (verdict.Going state) s = usual status (inl s)
-verdict_usual status (verdict.Past n p) s = usual status (inr (inr (inr (inr (inr s)))))
+  analysis_usual : (A : Program → ℕ → Bytes → Type 0) → ((p : Program) → A p status text → Usual status) → (p : Program) → AnalysisAnswers A p status text → Usual status
+  analysis_usual A f p (analysis.IsNotBuilt place loop s t) = usual status (inr (inr (inl s)))
+  analysis_usual A f p (analysis.IsAnalysed none a) = f p a
 
-order_usual : (held : Bytes → Holding) (order : Order) (status : ℕ) (text : Bytes) → OrderAnswers held order status text → Usual status
-order_usual held (Infer source) status text a = file_usual _ _ _ (held source) status text (source_usual InferAnswers status text (infer_usual status text)) a
-order_usual held (Run source script) status text a =
-    file_usual _ _ _ (held source) status text
-    (source_usual _ status text (λ p b. file_usual _ _ _ (held script) status text (script_usual p.names.params (RunAnswers p) status text (λ c r. verdict_usual status r.verdict r.status_is)) b)) a
+  verdict_usual : (v : Verdict) → status ≡ verdict_status v → Usual status
+  verdict_usual (verdict.Violated n p) s = usual status (inr (inl s))
+  verdict_usual (verdict.Blocked n p) s = usual status (inl s)
+  verdict_usual (verdict.Ended n) s = usual status (inl s)
+  verdict_usual (verdict.Going state) s = usual status (inl s)
+  verdict_usual (verdict.Past n p) s = usual status (inr (inr (inr (inr (inr s)))))
 
--- what a file is answered that holds these bytes
+  ruling_usual : (r : Ruling) → status ≡ ruling_status r → Usual status
+  ruling_usual ruling.Accepted s = usual status (inl s)
+  ruling_usual ruling.Shape s = usual status (inr (inl s))
+  ruling_usual (ruling.Entry a r) s = usual status (inr (inl s))
+  ruling_usual (ruling.Count a e) s = usual status (inr (inl s))
+  ruling_usual (ruling.Negative a e r) s = usual status (inr (inl s))
+  ruling_usual (ruling.Index a e r) s = usual status (inr (inl s))
+  ruling_usual (ruling.Past a e r) s = usual status (inr (inl s))
+  ruling_usual (ruling.NotBelow a e r) s = usual status (inr (inl s))
+  ruling_usual (ruling.Left a e r v) s = usual status (inr (inl s))
 
-pub of_held : (limit : ℕ) (long : Bytes) (A : Bytes → ℕ → Bytes → Type 0) (held : Holding) (bytes : Bytes) (status : ℕ) (text : Bytes) → held ≡ Held bytes →
-    FileAnswers limit long A held status text → ((limit < length bytes) × (status ≡ TOO_LONG)) ⊎ ((length bytes ≤ limit) × A bytes status text)
-of_held limit long A held bytes status text e (IsTooLong other holds more s t) =
-    let same : other ≡ bytes = subst (λ (h : Holding). MayHold h other) e holds in
-    inl (subst (λ (z : Bytes). limit < length z) same more, s)
-of_held limit long A held bytes status text e (IsShort other holds short a) =
-    let same : other ≡ bytes = subst (λ (h : Holding). MayHold h other) e holds in
-    inr (subst (λ (z : Bytes). length z ≤ limit) same short, subst (λ (z : Bytes). A z status text) same a)
+  on_source_usual : (A : Program → ℕ → Bytes → Type 0) (held : Holding) → ((p : Program) → A p status text → Usual status) → OnSource A held status text → Usual status
+  on_source_usual A held f a = file_usual _ _ (SourceAnswers A) held (source_usual A f) a
+
+  order_usual : (held : Bytes → Holding) (order : Order) → OrderAnswers held order status text → Usual status
+  order_usual held (Infer source) a = on_source_usual _ (held source) (analysis_usual _ (λ p b. usual status (inl b.status_is))) a
+  order_usual held (Certify source) a = on_source_usual _ (held source) (analysis_usual _ (λ p b. usual status (inl b.status_is))) a
+  order_usual held (Replay source certificate) a =
+      on_source_usual _ (held source) (λ p b. file_usual _ _ _ (held certificate) (certificate_usual _ (λ c r. ruling_usual _ r.status_is)) b) a
+  order_usual held (Run source script) a =
+      on_source_usual _ (held source) (λ p b. file_usual _ _ _ (held script) (script_usual p.names.params _ (λ c r. verdict_usual r.verdict r.status_is)) b) a
+  order_usual held (Show source) a = on_source_usual _ (held source) (λ p b. usual status (inl b.status_is)) a
+
+-- ---- what is answered of a file that holds these bytes
+
+module _ (held : Holding) (bytes : Bytes) (status : ℕ) (text : Bytes) (e : held ≡ Held bytes) where
+  pub of_held : (limit : ℕ) (long : Bytes) (A : Bytes → ℕ → Bytes → Type 0) → FileAnswers limit long A held status text →
+      ((limit < length bytes) × (status ≡ TOO_LONG)) ⊎ ((length bytes ≤ limit) × A bytes status text)
+  of_held limit long A (IsTooLong other holds more s t) =
+      let same : other ≡ bytes = subst (λ (h : Holding). MayHold h other) e holds in
+      inl (subst (λ (z : Bytes). limit < length z) same more, s)
+  of_held limit long A (IsShort other holds short a) =
+      let same : other ≡ bytes = subst (λ (h : Holding). MayHold h other) e holds in
+      inr (subst (λ (z : Bytes). length z ≤ limit) same short, subst (λ (z : Bytes). A z status text) same a)
+
+  file_read : (limit : ℕ) (long : Bytes) (A : Bytes → ℕ → Bytes → Type 0) → status ≢ TOO_LONG → FileAnswers limit long A held status text → A bytes status text
+  file_read limit long A no a = by (of_held limit long A a)
+    where
+      by : ((limit < length bytes) × (status ≡ TOO_LONG)) ⊎ ((length bytes ≤ limit) × A bytes status text) → A bytes status text
+      by (inl h) = absurd (no h.1)
+      by (inr h) = h.1
+
+  -- the program that is answered
+  pub source_read : (A : Program → ℕ → Bytes → Type 0) → status ≢ TOO_LONG → status ≢ REFUSED → OnSource A held status text → (p : Program) × Spells bytes p × A p status text
+  source_read A no not_refused a = by (file_read _ _ (SourceAnswers A) no a)
+    where
+      by : SourceAnswers A bytes status text → (p : Program) × Spells bytes p × A p status text
+      by (IsFaulty f faulty s t) = absurd (not_refused s)
+      by (IsSpelled p spells b) = (p, spells, b)
+
+  pub script_read : (params : ℕ) (A : Choosing → ℕ → Bytes → Type 0) → status ≢ TOO_LONG → status ≢ MALFORMED → OnScript params A held status text → (c : Choosing) × (script_of params bytes ≡ Ok c) × A c status text
+  script_read params A no not_malformed a = by (file_read _ _ (ScriptAnswers params A) no a)
+    where
+      by : ScriptAnswers params A bytes status text → (c : Choosing) × (script_of params bytes ≡ Ok c) × A c status text
+      by (IsNoScript f faulty s t) = absurd (not_malformed s)
+      by (IsScript c means b) = (c, means, b)
+
+  pub certificate_read : (A : Certificate → ℕ → Bytes → Type 0) → status ≢ TOO_LONG → status ≢ MALFORMED → OnCertificate A held status text → (c : Certificate) × IsTextOf bytes c × A c status text
+  certificate_read A no not_malformed a = by (file_read _ _ (CertificateAnswers A) no a)
+    where
+      by : CertificateAnswers A bytes status text → (c : Certificate) × IsTextOf bytes c × A c status text
+      by (IsNoCertificate f faulty s t) = absurd (not_malformed s)
+      by (IsCertificate c is b) = (c, is, b)
+
+-- a program that is not refused is analysed
+pub analysed : (A : Program → ℕ → Bytes → Type 0) (p : Program) (status : ℕ) (text : Bytes) → status ≢ REFUSED → AnalysisAnswers A p status text → A p status text
+analysed A p status text no (analysis.IsNotBuilt place loop s t) = absurd (no s)
+analysed A p status text no (analysis.IsAnalysed none a) = a
 
 -- a file that is not there is not answered
 pub of_nothing : (limit : ℕ) (long : Bytes) (A : Bytes → ℕ → Bytes → Type 0) (held : Holding) (status : ℕ) (text : Bytes) → held ≡ Nothing → FileAnswers limit long A held status text → ⊥
 of_nothing limit long A held status text e (IsTooLong bytes holds more s t) = subst (λ (h : Holding). MayHold h bytes) e holds
 of_nothing limit long A held status text e (IsShort bytes holds short a) = subst (λ (h : Holding). MayHold h bytes) e holds
-
--- what `infer` answers the bytes of a source
-
-abbrev InferSource : Bytes → ℕ → Bytes → Type 0
-InferSource bytes status text = SourceAnswers InferAnswers bytes status text
-
-short_status : (bytes : Bytes) (status : ℕ) (text : Bytes) → InferSource bytes status text → (status ≡ DONE) ⊎ (status ≡ REFUSED)
-short_status bytes status text (IsFaulty f faulty s t) = inr s
-short_status bytes status text (IsSpelled p spells (IsNotBuilt place first s t)) = inr s
-short_status bytes status text (IsSpelled p spells (HasCondition line condition inferred s t)) = inl s
-
--- more bytes than the limit are answered as too long, and no others are
-pub infer_too_long : (held : Holding) (bytes : Bytes) (status : ℕ) (text : Bytes) → held ≡ Held bytes → OnSource InferAnswers held status text → (status ≡ TOO_LONG) ↔ (SOURCE_BYTES < length bytes)
-infer_too_long held bytes status text e file = by (of_held _ _ _ held bytes status text e file)
-  where
-    by : ((SOURCE_BYTES < length bytes) × (status ≡ TOO_LONG)) ⊎ ((length bytes ≤ SOURCE_BYTES) × InferSource bytes status text) → (status ≡ TOO_LONG) ↔ (SOURCE_BYTES < length bytes)
-    by (inl h) = (λ s. h.0, λ l. h.1)
-    by (inr h) = let s = short_status bytes status text h.1 in let short = h.0 in (λ e. absurd (omega arith), λ l. absurd (omega arith))
-
-short_answers : (held : Holding) (bytes : Bytes) (status : ℕ) (text : Bytes) → held ≡ Held bytes → length bytes ≤ SOURCE_BYTES → OnSource InferAnswers held status text → InferSource bytes status text
-short_answers held bytes status text e short file = by (of_held _ _ _ held bytes status text e file)
-  where
-    by : ((SOURCE_BYTES < length bytes) × (status ≡ TOO_LONG)) ⊎ ((length bytes ≤ SOURCE_BYTES) × InferSource bytes status text) → InferSource bytes status text
-    by (inl h) = let more = h.0 in absurd (omega arith)
-    by (inr h) = h.1
-
--- bytes that spell a program that is analysed have no fault, and spell no other program
-no_fault : (bytes : Bytes) (f : SourceFault) → Faulty bytes f → IsAnalysed bytes → ⊥
-no_fault bytes f faulty analysed = each_text_has_no_more bytes (Ok analysed.program) (Err f) analysed.spelled faulty
-
-same_line : (bytes : Bytes) (p : Program) → Spells bytes p → IsAnalysed bytes → is_line p.body ≡ true
-same_line bytes p spells analysed =
-    let same = each_text_has_no_more bytes (Ok p) (Ok analysed.program) spells analysed.spelled in
-    ap (λ (c : Content). is_line c.body) same ∙ analysed.line
-
-refused_by : (bytes : Bytes) (status : ℕ) (text : Bytes) → InferSource bytes status text → (status ≡ REFUSED) ↔ (IsAnalysed bytes → ⊥)
-refused_by bytes status text (IsFaulty f faulty s t) = (λ e. no_fault bytes f faulty, λ none. s)
-refused_by bytes status text (IsSpelled p spells (IsNotBuilt place first s t)) = (λ e analysed. not_built_is_no_line p.body place first (same_line bytes p spells analysed), λ none. s)
-refused_by bytes status text (IsSpelled p spells (HasCondition line condition inferred s t)) =
-    (λ e. absurd (omega arith), λ none. absurd (none (record { program = p; spelled = spells; line = line })))
-
--- bytes are refused that spell no program that is analysed, and no others are
-pub infer_refused : (held : Holding) (bytes : Bytes) (status : ℕ) (text : Bytes) → held ≡ Held bytes → length bytes ≤ SOURCE_BYTES → OnSource InferAnswers held status text → (status ≡ REFUSED) ↔ (IsAnalysed bytes → ⊥)
-infer_refused held bytes status text e short file = refused_by bytes status text (short_answers held bytes status text e short file)
-
--- a source that is analysed is done
-pub infer_done : (held : Holding) (bytes : Bytes) (status : ℕ) (text : Bytes) → held ≡ Held bytes → length bytes ≤ SOURCE_BYTES → OnSource InferAnswers held status text → IsAnalysed bytes → status ≡ DONE
-infer_done held bytes status text e short file analysed =
-    let answers = short_answers held bytes status text e short file in
-    let no = (refused_by bytes status text answers).0 in
-    by (short_status bytes status text answers) (λ r. no r analysed)
-  where
-    by : (status ≡ DONE) ⊎ (status ≡ REFUSED) → (status ≡ REFUSED → ⊥) → status ≡ DONE
-    by (inl d) f = d
-    by (inr r) f = absurd (f r)
-
-exact_by : (bytes : Bytes) (status : ℕ) (text : Bytes) (old new : Option Bytes) → InferSource bytes status text → Appended old new text → status ≡ DONE → PrintedIsExact bytes old new
-exact_by bytes status text old new (IsFaulty f faulty s t) written done = absurd (omega arith)
-exact_by bytes status text old new (IsSpelled p spells (IsNotBuilt place first s t)) written done = absurd (omega arith)
-exact_by bytes status text old new (IsSpelled p spells (HasCondition line condition inferred s t)) written done =
-    record {
-      suffices = record { program = p; spelled = spells; condition = condition; small = inferred.small; printed = subst (λ (z : Bytes). Appended old new z) t written; safe = inferred.sound };
-      needed = inferred.exact;
-    }
-
--- a source that is done is answered by the text of a condition for its program
-pub infer_is_exact : (held : Holding) (bytes : Bytes) (status : ℕ) (text : Bytes) (old new : Option Bytes) → held ≡ Held bytes →
-    OnSource InferAnswers held status text → Appended old new text → status ≡ DONE → PrintedIsExact bytes old new
-infer_is_exact held bytes status text old new e file written done = by (of_held _ _ _ held bytes status text e file)
-  where
-    by : ((SOURCE_BYTES < length bytes) × (status ≡ TOO_LONG)) ⊎ ((length bytes ≤ SOURCE_BYTES) × InferSource bytes status text) → PrintedIsExact bytes old new
-    by (inl h) = let l = h.1 in absurd (omega arith)
-    by (inr h) = exact_by bytes status text old new h.1 written done
 
 -- a promise on the bytes that are held
 pub of_bytes : (P : Bytes → Type 0) (held : Holding) → ((bytes : Bytes) → held ≡ Held bytes → P bytes) → (held ≡ Nothing → ⊥) → OfBytes P held
@@ -160,65 +148,95 @@ of_bytes P Untold here nowhere = tt
 of_bytes P Nothing here nowhere = nowhere refl
 of_bytes P (Held bytes) here nowhere = here bytes refl
 
--- what `run` answers
+-- ---- when an analysis refuses a source
 
-verdict_by : (of_source of_script : Bytes) (p : Program) (c : Choosing) (status : ℕ) (text : Bytes) (old new : Option Bytes) → Spells of_source p → script_of p.names.params of_script ≡ Ok c →
-    RunAnswers p c status text → Appended old new text → PrintedVerdict of_source of_script status old new
-verdict_by of_source of_script p c status text old new spells means r written =
-    record {
-      program = p;
-      spelled = spells;
-      choosing = c;
-      means = means;
-      verdict = r.verdict;
-      says = r.says;
-      status_is = r.status_is;
-      printed = subst (λ (z : Bytes). Appended old new z) r.text_is written;
-    }
+module _ (A : Program → ℕ → Bytes → Type 0) (done : (p : Program) (status : ℕ) (text : Bytes) → A p status text → status ≡ DONE) where
+  abbrev SourceOf : Bytes → ℕ → Bytes → Type 0
+  SourceOf bytes status text = SourceAnswers (AnalysisAnswers A) bytes status text
 
-script_verdict : (held : Holding) (of_source of_script : Bytes) (p : Program) (status : ℕ) (text : Bytes) (old new : Option Bytes) → held ≡ Held of_script → Spells of_source p →
-    OnScript p.names.params (RunAnswers p) held status text → Appended old new text → IsVerdict status → PrintedVerdict of_source of_script status old new
-script_verdict held of_source of_script p status text old new e spells file written told = by (of_held _ _ _ held of_script status text e file)
-  where
-    by_script : ScriptAnswers p.names.params (RunAnswers p) of_script status text → PrintedVerdict of_source of_script status old new
-    by_script (IsMalformed f faulty s t) = absurd (omega arith)
-    by_script (IsScript c means r) = verdict_by of_source of_script p c status text old new spells means r written
+  short_status : (bytes : Bytes) (status : ℕ) (text : Bytes) → SourceOf bytes status text → (status ≡ DONE) ⊎ (status ≡ REFUSED)
+  short_status bytes status text (IsFaulty f faulty s t) = inr s
+  short_status bytes status text (IsSpelled p spells (analysis.IsNotBuilt place loop s t)) = inr s
+  short_status bytes status text (IsSpelled p spells (analysis.IsAnalysed none a)) = inl (done p status text a)
 
-    by : ((SCRIPT_BYTES < length of_script) × (status ≡ TOO_LONG)) ⊎ ((length of_script ≤ SCRIPT_BYTES) × ScriptAnswers p.names.params (RunAnswers p) of_script status text) → PrintedVerdict of_source of_script status old new
-    by (inl h) = let l = h.1 in absurd (omega arith)
-    by (inr h) = by_script h.1
+  -- more bytes than the limit are answered as too long, and no others are
+  pub analysis_too_long : (held : Holding) (bytes : Bytes) (status : ℕ) (text : Bytes) → held ≡ Held bytes → OnSource (AnalysisAnswers A) held status text → (status ≡ TOO_LONG) ↔ (SOURCE_BYTES < length bytes)
+  analysis_too_long held bytes status text e file = by (of_held held bytes status text e _ _ _ file)
+    where
+      by : ((SOURCE_BYTES < length bytes) × (status ≡ TOO_LONG)) ⊎ ((length bytes ≤ SOURCE_BYTES) × SourceOf bytes status text) → (status ≡ TOO_LONG) ↔ (SOURCE_BYTES < length bytes)
+      by (inl h) = (λ s. h.0, λ l. h.1)
+      by (inr h) = let s = short_status bytes status text h.1 in let short = h.0 in (λ e. absurd (omega arith), λ l. absurd (omega arith))
 
--- a run that has a verdict is answered by its text
-pub source_verdict : (held_source held_script : Holding) (of_source : Bytes) (status : ℕ) (text : Bytes) (old new : Option Bytes) → held_source ≡ Held of_source →
-    OnSource (λ p status text. OnScript p.names.params (RunAnswers p) held_script status text) held_source status text → Appended old new text → IsVerdict status →
-    OfBytes (λ of_script. PrintedVerdict of_source of_script status old new) held_script
-source_verdict held_source held_script of_source status text old new e file written told = by (of_held _ _ _ held_source of_source status text e file)
-  where
-    by_source : SourceAnswers (λ p status text. OnScript p.names.params (RunAnswers p) held_script status text) of_source status text → OfBytes (λ of_script. PrintedVerdict of_source of_script status old new) held_script
-    by_source (IsFaulty f faulty s t) = absurd (omega arith)
-    by_source (IsSpelled p spells r) =
-        of_bytes (λ of_script. PrintedVerdict of_source of_script status old new) held_script
-        (λ of_script e'. script_verdict held_script of_source of_script p status text old new e' spells r written told)
-        (λ e'. of_nothing _ _ _ held_script status text e' r)
+  short_answers : (held : Holding) (bytes : Bytes) (status : ℕ) (text : Bytes) → held ≡ Held bytes → length bytes ≤ SOURCE_BYTES → OnSource (AnalysisAnswers A) held status text → SourceOf bytes status text
+  short_answers held bytes status text e short file = by (of_held held bytes status text e _ _ _ file)
+    where
+      by : ((SOURCE_BYTES < length bytes) × (status ≡ TOO_LONG)) ⊎ ((length bytes ≤ SOURCE_BYTES) × SourceOf bytes status text) → SourceOf bytes status text
+      by (inl h) = let more = h.0 in absurd (omega arith)
+      by (inr h) = h.1
 
-    by : ((SOURCE_BYTES < length of_source) × (status ≡ TOO_LONG)) ⊎ ((length of_source ≤ SOURCE_BYTES) × SourceAnswers (λ p status text. OnScript p.names.params (RunAnswers p) held_script status text) of_source status text) →
-        OfBytes (λ of_script. PrintedVerdict of_source of_script status old new) held_script
-    by (inl h) = let l = h.1 in absurd (omega arith)
-    by (inr h) = by_source h.1
+  -- bytes that spell a program that is analysed have no fault, and spell no other program
+  no_fault : (bytes : Bytes) (f : SourceFault) → Faulty bytes f → IsAnalysed bytes → ⊥
+  no_fault bytes f faulty is = each_text_has_no_more bytes (Ok is.program) (Err f) is.spelled faulty
 
--- words order one thing
+  no_loop : (bytes : Bytes) (p : Program) (place : Place) → Spells bytes p → first (whiles_of p.body) ≡ Some place → IsAnalysed bytes → ⊥
+  no_loop bytes p place spells loop is =
+      let same = each_text_has_no_more bytes (Ok p) (Ok is.program) spells is.spelled in
+      let none = ap (λ (c : Content). first (whiles_of c.body)) same ∙ is.loop_free in
+      cc
 
-order_only : (words : List Bytes) (a b : Order) → IsOrder words a → IsOrder words b → words_of a ≡ words_of b
-order_only words a b p q = sym p.spelled ∙ q.spelled
+  refused_by : (bytes : Bytes) (status : ℕ) (text : Bytes) → SourceOf bytes status text → (status ≡ REFUSED) ↔ (IsAnalysed bytes → ⊥)
+  refused_by bytes status text (IsFaulty f faulty s t) = (λ e. no_fault bytes f faulty, λ none. s)
+  refused_by bytes status text (IsSpelled p spells (analysis.IsNotBuilt place loop s t)) = (λ e. no_loop bytes p place spells loop, λ none. s)
+  refused_by bytes status text (IsSpelled p spells (analysis.IsAnalysed free a)) =
+      let d = done p status text a in
+      (λ e. absurd (omega arith), λ none. absurd (none (record { program = p; spelled = spells; loop_free = free })))
+
+  -- bytes are refused that spell no program that is analysed, and no others are
+  pub analysis_refused : (held : Holding) (bytes : Bytes) (status : ℕ) (text : Bytes) → held ≡ Held bytes → length bytes ≤ SOURCE_BYTES → OnSource (AnalysisAnswers A) held status text → (status ≡ REFUSED) ↔ (IsAnalysed bytes → ⊥)
+  analysis_refused held bytes status text e short file = refused_by bytes status text (short_answers held bytes status text e short file)
+
+  -- a source that is analysed is done
+  pub analysis_done : (held : Holding) (bytes : Bytes) (status : ℕ) (text : Bytes) → held ≡ Held bytes → length bytes ≤ SOURCE_BYTES → OnSource (AnalysisAnswers A) held status text → IsAnalysed bytes → status ≡ DONE
+  analysis_done held bytes status text e short file is =
+      let answers = short_answers held bytes status text e short file in
+      let no = (refused_by bytes status text answers).0 in
+      by (short_status bytes status text answers) (λ r. no r is)
+    where
+      by : (status ≡ DONE) ⊎ (status ≡ REFUSED) → (status ≡ REFUSED → ⊥) → status ≡ DONE
+      by (inl d) f = d
+      by (inr r) f = absurd (f r)
+
+-- ---- words order one thing
 
 words_tell : (a b : Order) → words_of a ≡ words_of b → b ≡ a
 words_tell (Infer f) (Infer g) e = cc
+words_tell (Infer f) (Certify g) e = cc
+words_tell (Infer f) (Replay g c) e = cc
 words_tell (Infer f) (Run g s) e = cc
+words_tell (Infer f) (Show g) e = cc
+words_tell (Certify f) (Infer g) e = cc
+words_tell (Certify f) (Certify g) e = cc
+words_tell (Certify f) (Replay g c) e = cc
+words_tell (Certify f) (Run g s) e = cc
+words_tell (Certify f) (Show g) e = cc
+words_tell (Replay f c) (Infer g) e = cc
+words_tell (Replay f c) (Certify g) e = cc
+words_tell (Replay f c) (Replay g d) e = cc
+words_tell (Replay f c) (Run g s) e = cc
+words_tell (Replay f c) (Show g) e = cc
 words_tell (Run f s) (Infer g) e = cc
+words_tell (Run f s) (Certify g) e = cc
+words_tell (Run f s) (Replay g c) e = cc
 words_tell (Run f s) (Run g t) e = cc
+words_tell (Run f s) (Show g) e = cc
+words_tell (Show f) (Infer g) e = cc
+words_tell (Show f) (Certify g) e = cc
+words_tell (Show f) (Replay g c) e = cc
+words_tell (Show f) (Run g s) e = cc
+words_tell (Show f) (Show g) e = cc
 
 pub same_order : (words : List Bytes) (a b : Order) → IsOrder words a → IsOrder words b → b ≡ a
-same_order words a b p q = words_tell a b (order_only words a b p q)
+same_order words a b p q = words_tell a b (sym p.spelled ∙ q.spelled)
 
 module _ (words : List Bytes) (held : Bytes → Holding) (status : ℕ) (text : Bytes) where
   -- words that are an order are answered as the order
@@ -228,9 +246,9 @@ module _ (words : List Bytes) (held : Bytes → Holding) (status : ℕ) (text : 
 
   pub answers_is_answered : Answers words held status text → IsAnswered status
   answers_is_answered (Unknown none s t) = (omega arith, omega arith, omega arith)
-  answers_is_answered (Known order is a) = (order_usual held order status text a).answered
+  answers_is_answered (Known order is a) = (order_usual status text held order a).answered
 
   -- the usage is the answer to words in no plain form, and to no others
   pub answers_usage : Answers words held status text → (status ≡ USAGE) ↔ (IsPlain words → ⊥)
   answers_usage (Unknown none s t) = (λ e. none, λ o. s)
-  answers_usage (Known order is a) = (λ e. absurd ((order_usual held order status text a).known e), λ o. absurd (o (order, is)))
+  answers_usage (Known order is a) = (λ e. absurd ((order_usual status text held order a).known e), λ o. absurd (o (order, is)))

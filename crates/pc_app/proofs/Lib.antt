@@ -1,4 +1,3 @@
-pub mod LineLaws
 pub mod WordLemmas
 pub mod FileLemmas
 pub mod OrderLemmas
@@ -7,9 +6,6 @@ pub mod ScriptLemmas
 pub mod VerdictLemmas
 pub mod AnswerLemmas
 pub mod OnlyLemmas
+pub mod PromiseLemmas
 pub mod EndLemmas
-pub mod NeedLemmas
-pub mod StmtLemmas
-pub mod SaneLemmas
-pub mod TameLemmas
 pub mod InferLemmas

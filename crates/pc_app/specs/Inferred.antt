@@ -1,13 +1,15 @@
 -- What `infer` finds for a program: a condition on its entry states that suffices.
-use Rattle.std.specs.Prelude.{◌≡◌, ◌≤◌, ◌⊎◌, true, List, length, All}
+use Rattle.std.specs.Prelude.{◌≡◌, ◌≤◌, ◌⊎◌, true, ℤ, List, length, All}
 use Rattle.pc_rows.specs.Linear.{IsOver, Linear, MeetsSome}
 use Rattle.pc_rows.specs.declared.rows.TheConstants.{ROWS}
+use Rattle.pc_text.specs.declared.place.Place.{Place}
 use Rattle.pc_syntax.specs.declared.program.Program.{Program}
 use Rattle.pc_syntax.specs.Values.{State}
-use Rattle.pc_syntax.specs.Machine.{Going, started, Safe}
+use Rattle.pc_syntax.specs.Machine.{Violated, run_of, Safe}
+use Rattle.pc_graph.specs.Lowering.{graph}
+use Rattle.pc_graph.specs.Straight.{are_straight}
+use Rattle.pc_lower.specs.Tame.{IsTame}
 use Rattle.pc_app.specs.declared.limits.TheConstants.{ALTERNATIVES}
-use Rattle.pc_app.specs.Line.{is_line, HasViolation}
-use Rattle.pc_app.specs.Tame.{IsTame}
 
 -- an entry state of a program gives an integer to each parameter
 abbrev pub IsEntry : Program → State → Type 0
@@ -23,12 +25,21 @@ pub record IsCondition (p : Program) (condition : List (List Linear)) : Type 0 w
 abbrev pub Suffices : Program → List (List Linear) → Type 0
 Suffices p condition = (s : State) → IsEntry p s → MeetsSome s condition → Safe p s
 
+-- from the entry state some list of choices leads to a violated assertion
+abbrev pub HasViolation : Program → State → Type 0
+HasViolation p s = (cs : List ℤ) × (q : Place) × (run_of p s cs ≡ Violated q)
+
 -- from every entry state that does not meet the condition some list of choices leads to a violated assertion
 abbrev pub IsNeeded : Program → List (List Linear) → Type 0
-IsNeeded p condition = (s : State) → IsEntry p s → MeetsSome s condition ⊎ HasViolation (Going p.body (started p s))
+IsNeeded p condition = (s : State) → IsEntry p s → MeetsSome s condition ⊎ HasViolation p s
 
--- a condition for a program: it suffices, and is needed where the program is a tame line of assertions and assignments
+-- a program without loops, assumptions and tests but `*`, all of whose numbers are small on the way back
+pub record IsTameAndStraight (p : Program) : Type 0 where
+  pub straight : are_straight p.body ≡ true
+  pub tame : IsTame (graph p)
+
+-- a condition for a program: it suffices, and is needed where the program is tame and straight
 pub record Inferred (p : Program) (condition : List (List Linear)) : Type 0 where
   pub small : IsCondition p condition
   pub sound : Suffices p condition
-  pub exact : is_line p.body ≡ true → IsTame p.body → IsNeeded p condition
+  pub exact : IsTameAndStraight p → IsNeeded p condition

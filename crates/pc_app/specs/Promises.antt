@@ -1,18 +1,24 @@
 -- What the top call promises, by its words, by what the store tells and what the sink tells, and by their counts of faults.
-use Rattle.std.specs.Prelude.{◌≡◌, ◌≢◌, ◌⊎◌, ℕ, true, Option, List, [], ◌∷◌, length, Ok}
+use Rattle.std.specs.Prelude.{◌≡◌, ◌≢◌, ◌⊎◌, ◌≤◌, ℕ, Option, List, [], ◌∷◌, ◌++◌, length, Ok, codes}
 use Rattle.pc_ports.specs.Outside.{Holding, Untold, Nothing, Held, Rose, Appended, FrontAppended}
 use Rattle.pc_rows.specs.Linear.{Linear}
 use Rattle.pc_text.specs.Bytes.{Bytes}
 use Rattle.pc_syntax.specs.declared.program.Program.{Program}
 use Rattle.pc_syntax.specs.Spelling.{Spells}
+use Rattle.pc_syntax.specs.Canonical.{program_text}
+use Rattle.pc_cert.specs.Certificate.{Certificate, condition_of}
+use Rattle.pc_cert.specs.CertificateTexts.{IsTextOf}
 use Rattle.pc_cert.specs.Conditions.{condition_text}
+use Rattle.pc_graph.specs.Lowering.{graph}
+use Rattle.pc_replay.specs.Accepts.{Accepts}
+use Rattle.pc_replay.specs.Rule.{ruling}
 use Rattle.pc_runner.specs.Runs.{SaysOf}
 use Rattle.pc_runner.specs.Scripts.{Choosing, script_of}
 use Rattle.pc_runner.specs.declared.verdict.Verdict.{Verdict}
-use Rattle.pc_app.specs.declared.status.TheConstants.{DONE, VIOLATED, PAST, STORE_FAILED, SINK_FAILED, NO_MEMORY}
-use Rattle.pc_app.specs.Line.{is_line}
-use Rattle.pc_app.specs.Tame.{IsTame}
-use Rattle.pc_app.specs.Inferred.{IsCondition, Suffices, IsNeeded}
+use Rattle.pc_app.specs.declared.status.TheConstants.{DONE, FAILED, PAST, STORE_FAILED, SINK_FAILED, NO_MEMORY}
+use Rattle.pc_app.specs.declared.limits.TheConstants.{CERTIFICATE_BYTES}
+use Rattle.pc_app.specs.Rulings.{ruling_status, ruling_text}
+use Rattle.pc_app.specs.Inferred.{IsCondition, Suffices, IsNeeded, IsTameAndStraight}
 use Rattle.pc_app.specs.Words.{Order, IsOrder, files_of}
 use Rattle.pc_app.specs.Verdicts.{verdict_status, verdict_text}
 use Rattle.pc_app.specs.Answers.{Answers}
@@ -27,10 +33,53 @@ pub record PrintedSuffices (bytes : Bytes) (old new : Option Bytes) : Type 0 whe
   pub printed : Appended old new (condition_text program.names.names condition)
   pub safe : Suffices program condition
 
--- the same, and where the program is a tame line of assertions and assignments, each other entry state has choices that violate an assertion
+-- the same, and where the program is tame and straight each other entry state has choices that violate an assertion
 pub record PrintedIsExact (bytes : Bytes) (old new : Option Bytes) : Type 0 where
   pub suffices : PrintedSuffices bytes old new
-  pub needed : is_line suffices.program.body ≡ true → IsTame suffices.program.body → IsNeeded suffices.program suffices.condition
+  pub needed : IsTameAndStraight suffices.program → IsNeeded suffices.program suffices.condition
+
+-- the bytes of a source spell a program; what was appended is the text of a certificate that is right for the program's graph, and
+-- that is not too long to be read; every entry state that meets its condition is safe, and where the program is tame and straight
+-- each other entry state has choices that violate an assertion
+pub record PrintedCertificate (bytes : Bytes) (old new : Option Bytes) : Type 0 where
+  pub program : Program
+  pub spelled : Spells bytes program
+  pub certificate : Certificate
+  pub accepted : Accepts (graph program) certificate
+  pub text : Bytes
+  pub is_text : IsTextOf text certificate
+  pub short : length text ≤ CERTIFICATE_BYTES
+  pub printed : Appended old new text
+  pub small : IsCondition program (condition_of certificate)
+  pub safe : Suffices program (condition_of certificate)
+  pub needed : IsTameAndStraight program → IsNeeded program (condition_of certificate)
+
+-- the bytes of a source spell a program, those of a certificate are the text of one; the status and what was appended are those of
+-- the ruling on it for the program's graph
+pub record PrintedRuling (source certificate : Bytes) (status : ℕ) (old new : Option Bytes) : Type 0 where
+  pub program : Program
+  pub spelled : Spells source program
+  pub claim : Certificate
+  pub is_text : IsTextOf certificate claim
+  pub status_is : status ≡ ruling_status (ruling (graph program) claim)
+  pub printed : Appended old new (ruling_text program.names.names (condition_of claim) (ruling (graph program) claim))
+
+-- the certificate is right for the program's graph, what was appended tells so and what it says of the entry, and every entry state
+-- that meets that is safe
+pub record PrintedAccepted (source certificate : Bytes) (old new : Option Bytes) : Type 0 where
+  pub program : Program
+  pub spelled : Spells source program
+  pub claim : Certificate
+  pub is_text : IsTextOf certificate claim
+  pub accepted : Accepts (graph program) claim
+  pub printed : Appended old new (codes "accepted\n" ++ condition_text program.names.names (condition_of claim))
+  pub safe : Suffices program (condition_of claim)
+
+-- the bytes of a source spell a program, whose canonical text was appended
+pub record PrintedProgram (bytes : Bytes) (old new : Option Bytes) : Type 0 where
+  pub program : Program
+  pub spelled : Spells bytes program
+  pub printed : Appended old new (program_text program.names program.body)
 
 -- the bytes of a source spell a program, those of a script are one for it; the status and what was appended are those of the verdict on the machine's run
 pub record PrintedVerdict (source script : Bytes) (status : ℕ) (old new : Option Bytes) : Type 0 where
@@ -45,7 +94,11 @@ pub record PrintedVerdict (source script : Bytes) (status : ℕ) (old new : Opti
 
 -- the status of a verdict
 abbrev pub IsVerdict : ℕ → Type 0
-IsVerdict status = (status ≡ DONE) ⊎ ((status ≡ VIOLATED) ⊎ (status ≡ PAST))
+IsVerdict status = (status ≡ DONE) ⊎ ((status ≡ FAILED) ⊎ (status ≡ PAST))
+
+-- the status of a ruling
+abbrev pub IsRuling : ℕ → Type 0
+IsRuling status = (status ≡ DONE) ⊎ (status ≡ FAILED)
 
 -- a promise on the bytes that are held, where that is told
 abbrev pub OfBytes : (Bytes → Type 0) → Holding → Type 0
@@ -85,6 +138,11 @@ AreTold held (name ∷ names) = (held name ≢ Untold) × AreTold held names
 abbrev pub IsOnlyStatus : List Bytes → (Bytes → Holding) → ℕ → Type 0
 IsOnlyStatus words held status =
     (other : ℕ) (text : Bytes) → Answers words held other text → ((order : Order) → IsOrder words order → AreTold held (files_of order)) → other ≡ status
+
+-- no file that is named is told to be missing
+abbrev pub AreThere : (Bytes → Holding) → List Bytes → Type 0
+AreThere held [] = Unit {0}
+AreThere held (name ∷ names) = (held name ≢ Nothing) × AreThere held names
 
 -- how a call ends
 pub data Ends (words : List Bytes) (held : Bytes → Holding) (old new : Option Bytes) (store_before store_now sink_before sink_now status : ℕ) : Type 0 where

@@ -4,13 +4,15 @@ use Rattle.pc_ports.specs.Outside.{Holding}
 use Rattle.pc_text.specs.Bytes.{Bytes}
 use Rattle.pc_syntax.specs.declared.program.Program.{Program}
 use Rattle.pc_syntax.specs.Spelling.{Spells}
+use Rattle.pc_cert.specs.Certificate.{Certificate}
+use Rattle.pc_cert.specs.CertificateTexts.{IsTextOf}
 use Rattle.pc_runner.specs.Scripts.{Choosing, script_of}
 use Rattle.pc_runner.specs.declared.script.Script.{Script}
 use Rattle.pc_app.specs.declared.answer.Answer.{Answer}
 use Rattle.pc_app.specs.declared.answer.Stop.{Stop}
 use Rattle.pc_app.specs.declared.answer.Stop.TheVariants as stop
-use Rattle.pc_app.specs.declared.limits.TheConstants.{SOURCE_BYTES, SCRIPT_BYTES}
-use Rattle.pc_app.specs.Answers.{MayHold, FileAnswers, OnSource, OnScript, RunAnswers, OrderAnswers, Answers}
+use Rattle.pc_app.specs.declared.limits.TheConstants.{SOURCE_BYTES, SCRIPT_BYTES, CERTIFICATE_BYTES}
+use Rattle.pc_app.specs.Answers.{MayHold, FileAnswers, OnSource, OnScript, OnCertificate, OrderAnswers, Answers}
 use Rattle.pc_app.specs.Silences.{IsLost, OrderIsLost, LacksFile}
 use Rattle.pc_app.specs.Words.{Order}
 
@@ -49,17 +51,29 @@ abbrev pub ScriptIs : ℕ → Holding → ℕ → ℕ → Result Script Stop →
 ScriptIs params held before now (Ok s) = IsScriptFile params held s
 ScriptIs params held before now (Err e) = Stops (OnScript params Nobody held) (IsLost held before now) e
 
--- a run of a program on the script of a file has its answer
-abbrev pub RunIs : Program → Holding → ℕ → ℕ → Result Answer Stop → Type 0
-RunIs p held before now (Ok a) = OnScript p.names.params (RunAnswers p) held a.status a.text
-RunIs p held before now (Err e) = Stops (OnScript p.names.params Nobody held) (IsLost held before now) e
+-- a file is the text of a certificate
+pub record IsCertificateFile (held : Holding) (c : Certificate) : Type 0 where
+  pub bytes : Bytes
+  pub has : HasBytes CERTIFICATE_BYTES held bytes
+  pub text : IsTextOf bytes c
+
+abbrev pub CertificateIs : Holding → ℕ → ℕ → Result Certificate Stop → Type 0
+CertificateIs held before now (Ok c) = IsCertificateFile held c
+CertificateIs held before now (Err e) = Stops (OnCertificate Nobody held) (IsLost held before now) e
+
+-- there is an answer, or a reason to go no further
+abbrev pub Answered : (ℕ → Bytes → Type 0) → Type 0 → Result Answer Stop → Type 0
+Answered A Lost (Ok a) = A a.status a.text
+Answered A Lost (Err e) = Stops A Lost e
+
+-- something has its answer, which a further file may keep it from
+abbrev pub WithFile : (ℕ → Bytes → Type 0) → Holding → ℕ → ℕ → Result Answer Stop → Type 0
+WithFile A held before now r = Answered A (IsLost held before now) r
 
 -- an order has its answer
 abbrev pub OrderIs : (Bytes → Holding) → ℕ → ℕ → Order → Result Answer Stop → Type 0
-OrderIs held before now order (Ok a) = OrderAnswers held order a.status a.text
-OrderIs held before now order (Err e) = Stops (OrderAnswers held order) (OrderIsLost held before now order) e
+OrderIs held before now order r = Answered (OrderAnswers held order) (OrderIsLost held before now order) r
 
 -- words have their answer
 abbrev pub WordsAre : List Bytes → (Bytes → Holding) → ℕ → ℕ → Result Answer Stop → Type 0
-WordsAre words held before now (Ok a) = Answers words held a.status a.text
-WordsAre words held before now (Err e) = Stops (Answers words held) (LacksFile words held before now) e
+WordsAre words held before now r = Answered (Answers words held) (LacksFile words held before now) r

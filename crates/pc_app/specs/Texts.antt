@@ -7,15 +7,20 @@ use Rattle.pc_syntax.specs.declared.fault.SourceFault.{SourceFault}
 use Rattle.pc_syntax.specs.declared.fault.SourceFault.TheVariants as fault
 use Rattle.pc_runner.specs.declared.fault.ScriptFault.{ScriptFault}
 use Rattle.pc_runner.specs.declared.fault.ScriptFault.TheVariants as script
+use Rattle.pc_cert.specs.declared.fault.CertFault.{CertFault}
+use Rattle.pc_cert.specs.declared.fault.CertFault.TheVariants as certificate
 
 abbrev pub usage : Bytes
-usage = codes "usage: precond infer F\n       precond run F S\n"
+usage = codes "usage: precond infer F [--certificate]\n       precond replay F C\n       precond run F S\n       precond show F\n"
 
 abbrev pub source_too_long : Bytes
 source_too_long = codes "too long: source\n"
 
 abbrev pub script_too_long : Bytes
 script_too_long = codes "too long: script\n"
+
+abbrev pub certificate_too_long : Bytes
+certificate_too_long = codes "too long: certificate\n"
 
 -- a place as line and column
 abbrev pub place_text : Place → Bytes
@@ -63,5 +68,16 @@ script_fault_text (script.Many n) = codes "many " ++ line_text n
 script_fault_text script.NoMemory = []
 
 -- the line of a faulty script
-abbrev pub malformed : ScriptFault → Bytes
-malformed f = codes "script: " ++ script_fault_text f ++ codes "\n"
+abbrev pub malformed_script : ScriptFault → Bytes
+malformed_script f = codes "script: " ++ script_fault_text f ++ codes "\n"
+
+-- what is told of a faulty certificate (want of memory is no fault of it)
+abbrev pub certificate_fault_text : CertFault → Bytes
+certificate_fault_text (certificate.Form n) = codes "form " ++ line_text n
+certificate_fault_text (certificate.Number n) = codes "number " ++ line_text n
+certificate_fault_text (certificate.Trailing n) = codes "trailing " ++ line_text n
+certificate_fault_text certificate.NoMemory = []
+
+-- the line of a faulty certificate
+abbrev pub malformed_certificate : CertFault → Bytes
+malformed_certificate f = codes "certificate: " ++ certificate_fault_text f ++ codes "\n"

@@ -5,11 +5,11 @@ use Rattle.pc_text.specs.Numerals.{numeral}
 use Rattle.pc_text.specs.Bytes.{Bytes}
 use Rattle.pc_runner.specs.declared.verdict.Verdict.{Verdict}
 use Rattle.pc_runner.specs.declared.verdict.Verdict.TheVariants as verdict
-use Rattle.pc_app.specs.declared.status.TheConstants.{DONE, VIOLATED, PAST}
+use Rattle.pc_app.specs.declared.status.TheConstants.{DONE, FAILED, PAST}
 use Rattle.pc_app.specs.Texts.{place_text}
 
 abbrev pub verdict_status : Verdict → ℕ
-verdict_status (verdict.Violated n p) = VIOLATED
+verdict_status (verdict.Violated n p) = FAILED
 verdict_status (verdict.Blocked n p) = DONE
 verdict_status (verdict.Ended n) = DONE
 verdict_status (verdict.Going s) = DONE

@@ -1,20 +1,16 @@
 //! What words are answered: a status and the whole text.
 
-ghost use Rattle.std.specs.Prelude.{◌≡◌, ◌≤◌, ℕ, List, map, string_bytes, IfOk, IfErr};
-ghost use Rattle.pc_app.specs.Answers.{InferAnswers, OrderAnswers};
-ghost use Rattle.pc_app.specs.Reading.{OrderIs, RunIs, WordsAre};
-ghost use Rattle.pc_app.specs.Words.{Infer, Run, ordered};
+ghost use Rattle.std.specs.Prelude.{◌≡◌, ℕ, List, map, string_bytes, IfOk};
+ghost use Rattle.pc_app.specs.Reading.{OrderIs, WordsAre};
+ghost use Rattle.pc_app.specs.Words.{ordered};
 
-use crate::files::{script_in, source_in};
-use crate::line::{alternatives_of, first_not_built};
-use crate::refusal::refusal_at;
-use crate::status::{DONE, REFUSED, USAGE};
-use crate::verdict::answer_of_verdict;
+use crate::infer::{answer_to_certify, answer_to_infer};
+use crate::replay::answer_to_replay;
+use crate::run::answer_to_run;
+use crate::show::answer_to_show;
+use crate::status::USAGE;
 use crate::words::{Command, command_of};
-use pc_cert::condition;
 use pc_ports::Store;
-use pc_runner::run;
-use pc_syntax::Program;
 use pc_text::{NoMemory, Text};
 use std::alloc::Global;
 
@@ -60,7 +56,7 @@ pub(crate) fn answer_to_words<S: Store>(
         None => Ok(one_line(
             alloc,
             USAGE,
-            b"usage: precond infer F\n       precond run F S\n",
+            b"usage: precond infer F [--certificate]\n       precond replay F C\n       precond run F S\n       precond show F\n",
         )?),
     }
 }
@@ -76,67 +72,17 @@ fn answer_to_command<S: Store>(
 {
     match command {
         Command::Infer { source } => answer_to_infer(alloc, source, store),
+        Command::Certify { source } => answer_to_certify(alloc, source, store),
+        Command::Replay {
+            source,
+            certificate,
+        } => answer_to_replay(alloc, source, certificate, store),
         Command::Run { source, script } => answer_to_run(alloc, source, script, store),
+        Command::Show { source } => answer_to_show(alloc, source, store),
     }
 }
 
-/// The answer to `infer`.
-fn answer_to_infer<S: Store>(alloc: Global, source: &str, store: &mut S) -> Result<Answer, Stop>
-    ensures answered { OrderIs (S.holding store.old) (S.faults store.old) (S.faults store.new) (Infer source.now) result }
-    ensures kept { (name : List ℕ) → S.holding store.new name ≡ S.holding store.old name }
-{
-    let program = source_in(alloc, source, store)?;
-    Ok(infer_program(alloc, &program)?)
-}
-
-/// The answer to `infer` on a program.
-fn infer_program(alloc: Global, program: &Program) -> Result<Answer, NoMemory>
-    ensures { IfOk result (λ a. InferAnswers program.now a.status a.text) }
-{
-    if let Some(place) = first_not_built(program.body.as_slice()) {
-        return Ok(Answer {
-            status: REFUSED,
-            text: refusal_at(alloc, place)?,
-        });
-    }
-    let alternatives = alternatives_of(alloc, program)?;
-    Ok(Answer {
-        status: DONE,
-        text: condition(alloc, alternatives.as_slice(), &program.names)?,
-    })
-}
-
-/// The answer to `run`.
-fn answer_to_run<S: Store>(
-    alloc: Global,
-    source: &str,
-    script: &str,
-    store: &mut S,
-) -> Result<Answer, Stop>
-    ensures answered { OrderIs (S.holding store.old) (S.faults store.old) (S.faults store.new) (Run source.now script.now) result }
-    ensures kept { (name : List ℕ) → S.holding store.new name ≡ S.holding store.old name }
-{
-    let program = source_in(alloc, source, store)?;
-    run_program(alloc, &program, script, store)
-}
-
-/// The answer to `run` on a program.
-fn run_program<S: Store>(
-    alloc: Global,
-    program: &Program,
-    script: &str,
-    store: &mut S,
-) -> Result<Answer, Stop>
-    ensures answered { RunIs program.now (S.holding store.old script.now) (S.faults store.old) (S.faults store.new) result }
-    ensures counted { S.faults store.old ≤ S.faults store.new }
-    ensures kept { (name : List ℕ) → S.holding store.new name ≡ S.holding store.old name }
-{
-    let script = script_in(alloc, script, program.names.params(), store)?;
-    let verdict = run(alloc, program, &script)?;
-    Ok(answer_of_verdict(alloc, &program.names, script.choices.len(), &verdict)?)
-}
-
-/// The answer that is this line.
+/// The answer that is this text.
 pub(crate) fn one_line(alloc: Global, status: u8, line: &[u8]) -> Result<Answer, NoMemory>
     ensures { IfOk result (λ a. (a.status ≡ status) × (a.text ≡ line.now)) }
 {

@@ -3,13 +3,15 @@
 ghost use Rattle.std.specs.Prelude.{◌≡◌, ◌≤◌, ◌<◌, ℕ, List, IfOk, IfErr};
 ghost use Rattle.pc_app.specs.Answers.{FileAnswers};
 ghost use Rattle.pc_app.specs.Silences.{IsLost};
-ghost use Rattle.pc_app.specs.Reading.{HasBytes, Nobody, Stops, SourceIs, ScriptIs};
+ghost use Rattle.pc_app.specs.Reading.{HasBytes, Nobody, Stops, SourceIs, ScriptIs, CertificateIs};
 
 use crate::answer::{Answer, Stop, one_line};
-use crate::limits::{SCRIPT_BYTES, SOURCE_BYTES};
+use crate::limits::{CERTIFICATE_BYTES, SCRIPT_BYTES, SOURCE_BYTES};
+use crate::malformed::{malformed_certificate, malformed_script};
 use crate::refusal::refusal_of;
-use crate::script::malformed;
+
 use crate::status::{MALFORMED, REFUSED, TOO_LONG};
+use pc_cert::{CertFault, Certificate, read_certificate};
 use pc_ports::{FetchFault, Store};
 use pc_runner::{Script, ScriptFault, read_script};
 use pc_syntax::{Program, SourceFault, read};
@@ -71,7 +73,34 @@ pub(crate) fn script_in<S: Store>(
         Err(ScriptFault::NoMemory) => Err(Stop::Memory),
         Err(fault) => Err(Stop::Refused(Answer {
             status: MALFORMED,
-            text: malformed(alloc, fault)?,
+            text: malformed_script(alloc, fault)?,
+        })),
+    }
+}
+
+/// The certificate whose text a file is.
+pub(crate) fn certificate_in<S: Store>(
+    alloc: Global,
+    name: &str,
+    store: &mut S,
+) -> Result<Certificate, Stop>
+    ensures answered { CertificateIs (S.holding store.old name.now) (S.faults store.old) (S.faults store.new) result }
+    ensures counted { S.faults store.old ≤ S.faults store.new }
+    ensures kept { (n : List ℕ) → S.holding store.new n ≡ S.holding store.old n }
+{
+    let bytes = bytes_in(
+        alloc,
+        name,
+        CERTIFICATE_BYTES,
+        b"too long: certificate\n",
+        store,
+    )?;
+    match read_certificate(alloc, bytes.as_slice()) {
+        Ok(certificate) => Ok(certificate),
+        Err(CertFault::NoMemory) => Err(Stop::Memory),
+        Err(fault) => Err(Stop::Refused(Answer {
+            status: MALFORMED,
+            text: malformed_certificate(alloc, fault)?,
         })),
     }
 }

@@ -3,20 +3,23 @@
 
 mod answer;
 mod files;
+mod infer;
 mod limits;
-mod line;
-mod need;
+mod malformed;
 mod refusal;
-mod script;
+mod replay;
+mod ruling;
+mod run;
 mod service;
+mod show;
 mod status;
 #[cfg(test)]
 mod tests;
 mod verdict;
 mod words;
 
-pub use limits::{ALTERNATIVES, SCRIPT_BYTES, SOURCE_BYTES};
+pub use limits::{ALTERNATIVES, CERTIFICATE_BYTES, SCRIPT_BYTES, SOURCE_BYTES};
 pub use service::serve;
 pub use status::{
-    DONE, MALFORMED, NO_MEMORY, PAST, REFUSED, SINK_FAILED, STORE_FAILED, TOO_LONG, USAGE, VIOLATED,
+    DONE, MALFORMED, NO_MEMORY, PAST, REFUSED, SINK_FAILED, STORE_FAILED, TOO_LONG, USAGE, FAILED,
 };

@@ -2,10 +2,10 @@
 
 ghost use Rattle.std.specs.Prelude.{◌≡◌, ◌≢◌, ◌≤◌, ◌<◌, ◌↔◌, ◌⊎◌, ℕ, List, map, string_bytes, length};
 ghost use Rattle.pc_ports.specs.Outside.{Held, Rose};
-ghost use Rattle.pc_app.specs.Built.{IsAnalysed};
-ghost use Rattle.pc_app.specs.Words.{IsInfer, IsRun, IsPlain};
+ghost use Rattle.pc_app.specs.Analysed.{IsAnalysed};
+ghost use Rattle.pc_app.specs.Words.{Order, IsOrder, IsInfer, IsCertify, IsReplay, IsRun, IsShow, IsPlain, files_of};
 ghost use Rattle.pc_app.specs.Silences.{LacksFile};
-ghost use Rattle.pc_app.specs.Promises.{OfBytes, PrintedSuffices, PrintedIsExact, PrintedVerdict, IsVerdict, IsOnlyStatus, IsWritten, IsAnswered, HasAnswered, IsCutOff, Ends};
+ghost use Rattle.pc_app.specs.Promises.{OfBytes, PrintedSuffices, PrintedIsExact, PrintedCertificate, PrintedRuling, PrintedAccepted, PrintedVerdict, PrintedProgram, IsRuling, IsVerdict, AreThere, IsOnlyStatus, IsWritten, IsAnswered, HasAnswered, IsCutOff, Ends};
 
 use crate::answer::{Answer, Stop, answer_to_words};
 use crate::limits::SOURCE_BYTES;
@@ -17,7 +17,7 @@ use std::alloc::Global;
 ///
 /// The words are those after the program's name. `infer F` reads the source `F` from the store and
 /// writes a condition on its entry states to the sink: [`DONE`]. `run F S` runs the source `F` on
-/// the script `S` and writes the verdict: [`DONE`], [`VIOLATED`](crate::VIOLATED) or
+/// the script `S` and writes the verdict: [`DONE`], [`FAILED`](crate::FAILED) or
 /// [`PAST`](crate::PAST). What is written with each other status, and when it comes, stands with
 /// the statuses.
 pub fn serve<S: Store, K: Sink>(alloc: Global, words: &[String], store: &mut S, out: &mut K) -> u8
@@ -26,14 +26,35 @@ pub fn serve<S: Store, K: Sink>(alloc: Global, words: &[String], store: &mut S, 
     ensures sound { (name : List ℕ) → IsInfer (map string_bytes words.now) name → result ≡ DONE →
         OfBytes (λ bytes. PrintedSuffices bytes (K.written out.old) (K.written out.new)) (S.holding store.old name) }
 
-    // On tame lines of assertions and assignments exactly the safe entry states meet it.
+    // On tame programs without loops, assumptions and tests but `*` exactly the safe entry states meet it:
+    // from each other some list of choices violates an assertion.
     ensures exact { (name : List ℕ) → IsInfer (map string_bytes words.now) name → result ≡ DONE →
         OfBytes (λ bytes. PrintedIsExact bytes (K.written out.old) (K.written out.new)) (S.holding store.old name) }
+
+    // Words `infer F --certificate`, done: a certificate was printed that is right for the program, and
+    // every entry state that meets its condition is safe; on tame and straight programs no other is.
+    ensures certified { (name : List ℕ) → IsCertify (map string_bytes words.now) name → result ≡ DONE →
+        OfBytes (λ bytes. PrintedCertificate bytes (K.written out.old) (K.written out.new)) (S.holding store.old name) }
+
+    // Words `replay F C`, done: the certificate of C, whoever made it, is right for the program of F, and
+    // every entry state that meets the condition that was printed is safe.
+    ensures accepted { (source certificate : List ℕ) → IsReplay (map string_bytes words.now) source certificate → result ≡ DONE →
+        OfBytes (λ of_source. OfBytes (λ of_certificate. PrintedAccepted of_source of_certificate (K.written out.old) (K.written out.new))
+            (S.holding store.old certificate)) (S.holding store.old source) }
+
+    // Done or failed: the ruling was printed, which is the first refusal in the order of the rule.
+    ensures ruled { (source certificate : List ℕ) → IsReplay (map string_bytes words.now) source certificate → IsRuling result →
+        OfBytes (λ of_source. OfBytes (λ of_certificate. PrintedRuling of_source of_certificate result (K.written out.old) (K.written out.new))
+            (S.holding store.old certificate)) (S.holding store.old source) }
 
     // Words `run F S`: the verdict on the machine's run of the program of F over the choices of S.
     ensures verdict { (source script : List ℕ) → IsRun (map string_bytes words.now) source script → IsVerdict result →
         OfBytes (λ of_source. OfBytes (λ of_script. PrintedVerdict of_source of_script result (K.written out.old) (K.written out.new))
         (S.holding store.old script)) (S.holding store.old source) }
+
+    // Words `show F`, done: the canonical text of the program.
+    ensures shown { (name : List ℕ) → IsShow (map string_bytes words.now) name → result ≡ DONE →
+        OfBytes (λ bytes. PrintedProgram bytes (K.written out.old) (K.written out.new)) (S.holding store.old name) }
 
     // Each answer is written whole.
     ensures answered { IsAnswered result →
@@ -59,6 +80,11 @@ pub fn serve<S: Store, K: Sink>(alloc: Global, words: &[String], store: &mut S, 
     ensures sink { result ≡ SINK_FAILED →
         IsCutOff (map string_bytes words.now) (S.holding store.old) (K.written out.old) (K.written out.new) (K.faults out.old) (K.faults out.new) }
     ensures unwritten { (result ≡ STORE_FAILED) ⊎ (result ≡ NO_MEMORY) → K.written out.new ≡ K.written out.old }
+
+    // Where nothing outside fails and the files are there, every call is answered, but for want of memory.
+    ensures answers { (order : Order) → IsOrder (map string_bytes words.now) order → AreThere (S.holding store.old) (files_of order) →
+        (Rose (S.faults store.old) (S.faults store.new) → ⊥) → (Rose (K.faults out.old) (K.faults out.new) → ⊥) →
+        IsAnswered result ⊎ (result ≡ NO_MEMORY) }
 
     // Where nothing outside fails, a source that is held, short enough and analysed is done, but
     // for want of memory.

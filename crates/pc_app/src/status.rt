@@ -3,8 +3,9 @@
 /// The whole output was written.
 pub const DONE: u8 = 0;
 
-/// The run has violated an assertion; the verdict was written.
-pub const VIOLATED: u8 = 1;
+/// The run has violated an assertion, or the certificate is refused; the verdict or the refusal was
+/// written.
+pub const FAILED: u8 = 1;
 
 /// The words are no command; how the program is used was written.
 pub const USAGE: u8 = 2;
@@ -12,7 +13,7 @@ pub const USAGE: u8 = 2;
 /// The source spells no program that is analysed; the line that says why was written.
 pub const REFUSED: u8 = 3;
 
-/// The script is not in its grammar; the line that says why was written.
+/// The script or the certificate is not in its grammar; the line that says why was written.
 pub const MALFORMED: u8 = 4;
 
 /// A file could not be read, or is not there; nothing was written.

@@ -6,7 +6,7 @@ ghost use Rattle.pc_app.specs.Verdicts.{step_text, step_at, values_text, told, v
 
 use crate::answer::Answer;
 use crate::refusal::push_place;
-use crate::status::{DONE, PAST, VIOLATED};
+use crate::status::{DONE, PAST, FAILED};
 use pc_runner::Verdict;
 use pc_text::{Names, NoMemory, Place, Text};
 use std::alloc::Global;
@@ -34,7 +34,7 @@ fn status_of(verdict: &Verdict) -> u8
     ensures { result ≡ verdict_status verdict.now }
 {
     match verdict {
-        Verdict::Violated { .. } => VIOLATED,
+        Verdict::Violated { .. } => FAILED,
         Verdict::Past { .. } => PAST,
         Verdict::Blocked { .. } | Verdict::Ended { .. } | Verdict::Going { .. } => DONE,
     }

@@ -8,8 +8,17 @@ ghost use Rattle.pc_app.specs.Words.{IsFile, IsPlain, IsOrder, ordered};
 pub(crate) enum Command<'a> {
     /// `infer F`: the condition of the source in the file.
     Infer { source: &'a str },
+    /// `infer F --certificate`: its certificate.
+    Certify { source: &'a str },
+    /// `replay F C`: the ruling on a certificate for a source.
+    Replay {
+        source: &'a str,
+        certificate: &'a str,
+    },
     /// `run F S`: the verdict on the run of a source on a script.
     Run { source: &'a str, script: &'a str },
+    /// `show F`: the canonical text of a source.
+    Show { source: &'a str },
 }
 
 /// The command that the words are, where they are in a plain form.
@@ -18,7 +27,7 @@ pub(crate) fn command_of(words: &[String]) -> Option<Command<'_>>
 {
     match words {
         [verb, source] => of_one_file(verb.as_str(), source.as_str()),
-        [verb, source, other] => of_two_files(verb.as_str(), source.as_str(), other.as_str()),
+        [verb, source, third] => of_three_words(verb.as_str(), source.as_str(), third.as_str()),
         _ => None,
     }
 }
@@ -27,8 +36,29 @@ pub(crate) fn command_of(words: &[String]) -> Option<Command<'_>>
 fn of_one_file<'a>(verb: &str, source: &'a str) -> Option<Command<'a>>
     ensures { MatchOption result (IsPlain (verb.now ∷ source.now ∷ []) → ⊥) (λ c. IsOrder (verb.now ∷ source.now ∷ []) (ordered c)) }
 {
-    if verb == "infer" && is_file(source) {
+    if !is_file(source) {
+        return None;
+    }
+    if verb == "infer" {
         Some(Command::Infer { source })
+    } else if verb == "show" {
+        Some(Command::Show { source })
+    } else {
+        None
+    }
+}
+
+/// The command of a verb, a file and a third word.
+fn of_three_words<'a>(verb: &str, source: &'a str, third: &'a str) -> Option<Command<'a>>
+    ensures { MatchOption result (IsPlain (verb.now ∷ source.now ∷ third.now ∷ []) → ⊥) (λ c. IsOrder (verb.now ∷ source.now ∷ third.now ∷ []) (ordered c)) }
+{
+    if !is_file(source) {
+        return None;
+    }
+    if verb == "infer" && third == "--certificate" {
+        Some(Command::Certify { source })
+    } else if is_file(third) {
+        of_two_files(verb, source, third)
     } else {
         None
     }
@@ -36,9 +66,16 @@ fn of_one_file<'a>(verb: &str, source: &'a str) -> Option<Command<'a>>
 
 /// The command of a verb and two files.
 fn of_two_files<'a>(verb: &str, source: &'a str, other: &'a str) -> Option<Command<'a>>
+    requires source { IsFile source.now }
+    requires other { IsFile other.now }
     ensures { MatchOption result (IsPlain (verb.now ∷ source.now ∷ other.now ∷ []) → ⊥) (λ c. IsOrder (verb.now ∷ source.now ∷ other.now ∷ []) (ordered c)) }
 {
-    if verb == "run" && is_file(source) && is_file(other) {
+    if verb == "replay" {
+        Some(Command::Replay {
+            source,
+            certificate: other,
+        })
+    } else if verb == "run" {
         Some(Command::Run {
             source,
             script: other,

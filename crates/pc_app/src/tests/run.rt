@@ -1,7 +1,7 @@
 //! Runs of programs on scripts.
 
 use super::call;
-use crate::{DONE, MALFORMED, PAST, REFUSED, SCRIPT_BYTES, TOO_LONG, VIOLATED};
+use crate::{DONE, MALFORMED, PAST, REFUSED, SCRIPT_BYTES, TOO_LONG, FAILED};
 use std::test::Fail;
 
 /// A loop that counts to 100, and lets `j` grow on the way.
@@ -20,12 +20,12 @@ const COUNTING: &str = "entry (j) {
 const RUNS: [(&str, u8, &str); 11] = [
     (
         "entry 6\nchoose 1 500\n",
-        VIOLATED,
+        FAILED,
         "violated step 401 at 7:5",
     ),
     (
         "entry 6\nchoose 9 500\n",
-        VIOLATED,
+        FAILED,
         "violated step 401 at 7:5",
     ),
     ("entry 5\nchoose 1 500\n", DONE, "ended step 403"),

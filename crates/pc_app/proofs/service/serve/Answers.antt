@@ -36,3 +36,18 @@ returns-clause-verdict g c = ends.verdict _ _ _ _ _ _ _ _ _ c.respond.ensures.en
 
 pub returns-clause-only : goal.returns-clause-only
 returns-clause-only g c = ends.only _ _ _ _ _ _ _ _ _ c.respond.ensures.ends
+
+pub returns-clause-certified : goal.returns-clause-certified
+returns-clause-certified g c = ends.certified _ _ _ _ _ _ _ _ _ c.respond.ensures.ends
+
+pub returns-clause-accepted : goal.returns-clause-accepted
+returns-clause-accepted g c = ends.accepted _ _ _ _ _ _ _ _ _ c.respond.ensures.ends
+
+pub returns-clause-ruled : goal.returns-clause-ruled
+returns-clause-ruled g c = ends.ruled _ _ _ _ _ _ _ _ _ c.respond.ensures.ends
+
+pub returns-clause-shown : goal.returns-clause-shown
+returns-clause-shown g c = ends.shown _ _ _ _ _ _ _ _ _ c.respond.ensures.ends
+
+pub returns-clause-answers : goal.returns-clause-answers
+returns-clause-answers g c = ends.answers _ _ _ _ _ _ _ _ _ c.respond.ensures.ends

@@ -1,27 +1,28 @@
-//! The line that tells why a text is no script.
+//! The lines that tell why a text is no script, or no certificate.
 
 ghost use Rattle.std.specs.Prelude.{◌≡◌, ◌≢◌, ◌++◌, OnOk, IfOk};
-ghost use Rattle.pc_app.specs.Texts.{line_text, script_fault_text, malformed};
+ghost use Rattle.pc_app.specs.Texts.{line_text, script_fault_text, malformed_script, certificate_fault_text, malformed_certificate};
 
 use crate::refusal::push_also;
+use pc_cert::CertFault;
 use pc_runner::ScriptFault;
 use pc_text::{NoMemory, Text};
 use std::alloc::Global;
 
 /// The line of a script with this fault.
-pub(crate) fn malformed(alloc: Global, fault: ScriptFault) -> Result<Text, NoMemory>
+pub(crate) fn malformed_script(alloc: Global, fault: ScriptFault) -> Result<Text, NoMemory>
     requires { fault ≢ ScriptFault.NoMemory }
-    ensures { IfOk result (λ t. t ≡ malformed fault) }
+    ensures { IfOk result (λ t. t ≡ malformed_script fault) }
 {
     let mut text = Text::new(alloc);
     text.push_all(b"script: ")?;
-    push_fault(&mut text, fault)?;
+    push_script_fault(&mut text, fault)?;
     text.push(b'\n')?;
     Ok(text)
 }
 
-/// Adds what is told of a fault.
-fn push_fault(text: &mut Text, fault: ScriptFault) -> Result<(), NoMemory>
+/// Adds what is told of the fault of a script.
+fn push_script_fault(text: &mut Text, fault: ScriptFault) -> Result<(), NoMemory>
     requires { fault ≢ ScriptFault.NoMemory }
     ensures { OnOk result (text.new ≡ text.old ++ script_fault_text fault) }
 {
@@ -31,6 +32,31 @@ fn push_fault(text: &mut Text, fault: ScriptFault) -> Result<(), NoMemory>
         ScriptFault::Many(line) => push_line(text, b"many ", line),
         ScriptFault::Values { given, wanted } => push_values(text, given, wanted),
         ScriptFault::NoMemory => unreachable!(),
+    }
+}
+
+/// The line of a certificate with this fault.
+pub(crate) fn malformed_certificate(alloc: Global, fault: CertFault) -> Result<Text, NoMemory>
+    requires { fault ≢ CertFault.NoMemory }
+    ensures { IfOk result (λ t. t ≡ malformed_certificate fault) }
+{
+    let mut text = Text::new(alloc);
+    text.push_all(b"certificate: ")?;
+    push_certificate_fault(&mut text, fault)?;
+    text.push(b'\n')?;
+    Ok(text)
+}
+
+/// Adds what is told of the fault of a certificate.
+fn push_certificate_fault(text: &mut Text, fault: CertFault) -> Result<(), NoMemory>
+    requires { fault ≢ CertFault.NoMemory }
+    ensures { OnOk result (text.new ≡ text.old ++ certificate_fault_text fault) }
+{
+    match fault {
+        CertFault::Form(line) => push_line(text, b"form ", line),
+        CertFault::Number(line) => push_line(text, b"number ", line),
+        CertFault::Trailing(line) => push_line(text, b"trailing ", line),
+        CertFault::NoMemory => unreachable!(),
     }
 }
 

@@ -1,0 +1,132 @@
+-- What an answer to an order promises of the program, by what was written.
+use Rattle.std.proofs.Common.{◌≡◌, ◌≢◌, ◌∙◌, sym, subst, ℕ, Option, codes, ◌++◌, arith, refl}
+use Rattle.pc_ports.specs.Outside.{Holding, Untold, Nothing, Held, Appended}
+use Rattle.pc_text.specs.Bytes.{Bytes}
+use Rattle.pc_graph.specs.Lowering.{graph}
+use Rattle.pc_cert.specs.Certificate.{Certificate, condition_of}
+use Rattle.pc_cert.specs.Conditions.{condition_text}
+use Rattle.pc_replay.specs.Accepts.{Accepts}
+use Rattle.pc_replay.specs.Rule.{ruling}
+use Rattle.pc_replay.specs.declared.ruling.Ruling.{Ruling}
+use Rattle.pc_replay.specs.declared.ruling.Ruling.TheVariants as answer
+use Rattle.pc_replay.proofs.Ruled.{rule_is_meant}
+use Rattle.pc_replay.proofs.Sound.{accepted_programs_are_safe}
+use Rattle.pc_app.specs.declared.status.TheConstants.{DONE, FAILED, REFUSED, MALFORMED, TOO_LONG, PAST}
+use Rattle.pc_app.specs.Rulings.{ruling_status, ruling_text}
+use Rattle.pc_app.specs.Answers.{AnalysisAnswers, InferAnswers, CertifyAnswers, ReplayAnswers, RunAnswers, ShowAnswers, OnSource, OnReplay, OnRun}
+use Rattle.pc_app.specs.Promises.{OfBytes, PrintedSuffices, PrintedIsExact, PrintedCertificate, PrintedRuling, PrintedAccepted, PrintedVerdict, PrintedProgram, IsVerdict, IsRuling}
+use Rattle.pc_app.proofs.AnswerLemmas.{source_read, script_read, certificate_read, analysed, of_bytes, of_nothing}
+
+module _ (held : Holding) (bytes : Bytes) (status : ℕ) (text : Bytes) (old new : Option Bytes) (e : held ≡ Held bytes) (written : Appended old new text) where
+  -- what was written, where it is told what the text is
+  is_written : (other : Bytes) → text ≡ other → Appended old new other
+  is_written other same = subst (λ (z : Bytes). Appended old new z) same written
+
+  pub infer_is_exact : status ≡ DONE → OnSource (AnalysisAnswers InferAnswers) held status text → PrintedIsExact bytes old new
+  infer_is_exact done file =
+      let r = source_read held bytes status text e (AnalysisAnswers InferAnswers) (λ l. omega arith) (λ l. omega arith) file in
+      let a = analysed InferAnswers r.0 status text (λ l. omega arith) r.2 in
+      record {
+        suffices = record { program = r.0; spelled = r.1; condition = a.condition; small = a.inferred.small; printed = is_written _ a.text_is; safe = a.inferred.sound };
+        needed = a.inferred.exact;
+      }
+
+  pub certify_is_right : status ≡ DONE → OnSource (AnalysisAnswers CertifyAnswers) held status text → PrintedCertificate bytes old new
+  certify_is_right done file =
+      let r = source_read held bytes status text e (AnalysisAnswers CertifyAnswers) (λ l. omega arith) (λ l. omega arith) file in
+      let a = analysed CertifyAnswers r.0 status text (λ l. omega arith) r.2 in
+      record {
+        program = r.0;
+        spelled = r.1;
+        certificate = a.certificate;
+        accepted = a.accepted;
+        text = text;
+        is_text = a.spelled;
+        short = a.short;
+        printed = written;
+        small = a.inferred.small;
+        safe = a.inferred.sound;
+        needed = a.inferred.exact;
+      }
+
+  pub show_is_text : status ≡ DONE → OnSource ShowAnswers held status text → PrintedProgram bytes old new
+  show_is_text done file =
+      let r = source_read held bytes status text e ShowAnswers (λ l. omega arith) (λ l. omega arith) file in
+      record { program = r.0; spelled = r.1; printed = is_written _ r.2.text_is }
+
+  pub run_is_verdict : IsVerdict status → (script : Holding) → OnSource (OnRun script) held status text → OfBytes (λ of_script. PrintedVerdict bytes of_script status old new) script
+  run_is_verdict told script file =
+      let r = source_read held bytes status text e (OnRun script) (λ l. omega arith) (λ l. omega arith) file in
+      of_bytes (λ of_script. PrintedVerdict bytes of_script status old new) script
+      (λ of_script e'.
+          let c = script_read script of_script status text e' r.0.names.params (RunAnswers r.0) (λ l. omega arith) (λ l. omega arith) r.2 in
+          record {
+            program = r.0;
+            spelled = r.1;
+            choosing = c.0;
+            means = c.1;
+            verdict = c.2.verdict;
+            says = c.2.says;
+            status_is = c.2.status_is;
+            printed = is_written _ c.2.text_is;
+          })
+      (λ e'. of_nothing _ _ _ script status text e' r.2)
+
+  pub replay_is_ruling : IsRuling status → (certificate : Holding) → OnSource (OnReplay certificate) held status text → OfBytes (λ of_certificate. PrintedRuling bytes of_certificate status old new) certificate
+  replay_is_ruling told certificate file =
+      let r = source_read held bytes status text e (OnReplay certificate) (λ l. omega arith) (λ l. omega arith) file in
+      of_bytes (λ of_certificate. PrintedRuling bytes of_certificate status old new) certificate
+      (λ of_certificate e'.
+          let c = certificate_read certificate of_certificate status text e' (ReplayAnswers r.0) (λ l. omega arith) (λ l. omega arith) r.2 in
+          record {
+            program = r.0;
+            spelled = r.1;
+            claim = c.0;
+            is_text = c.1;
+            status_is = c.2.status_is;
+            printed = is_written _ c.2.text_is;
+          })
+      (λ e'. of_nothing _ _ _ certificate status text e' r.2)
+
+done_is_accepted : (r : Ruling) → DONE ≡ ruling_status r → r ≡ answer.Accepted
+done_is_accepted answer.Accepted e = refl
+done_is_accepted answer.Shape e = absurd (omega arith)
+done_is_accepted (answer.Entry a r) e = absurd (omega arith)
+done_is_accepted (answer.Count a d) e = absurd (omega arith)
+done_is_accepted (answer.Negative a d r) e = absurd (omega arith)
+done_is_accepted (answer.Index a d r) e = absurd (omega arith)
+done_is_accepted (answer.Past a d r) e = absurd (omega arith)
+done_is_accepted (answer.NotBelow a d r) e = absurd (omega arith)
+done_is_accepted (answer.Left a d r v) e = absurd (omega arith)
+
+-- a ruling that is done is that the certificate is right
+ruling_accepts : (source certificate : Bytes) (status : ℕ) (old new : Option Bytes) → status ≡ DONE → PrintedRuling source certificate status old new → PrintedAccepted source certificate old new
+ruling_accepts source certificate status old new done p =
+    let is : ruling (graph p.program) p.claim ≡ answer.Accepted = done_is_accepted _ (sym done ∙ p.status_is) in
+    let accepts : Accepts (graph p.program) p.claim = (rule_is_meant (graph p.program) p.claim).0 is in
+    record {
+      program = p.program;
+      spelled = p.spelled;
+      claim = p.claim;
+      is_text = p.is_text;
+      accepted = accepts;
+      printed = subst (λ (r : Ruling). Appended old new (ruling_text p.program.names.names (condition_of p.claim) r)) is p.printed;
+      safe = accepted_programs_are_safe p.program p.claim accepts;
+    }
+
+of_certificate_accepts : (source : Bytes) (status : ℕ) (old new : Option Bytes) (held : Holding) → status ≡ DONE → OfBytes (λ c. PrintedRuling source c status old new) held → OfBytes (λ c. PrintedAccepted source c old new) held
+of_certificate_accepts source status old new Untold done p = tt
+of_certificate_accepts source status old new Nothing done p = p
+of_certificate_accepts source status old new (Held bytes) done p = ruling_accepts source bytes status old new done p
+
+pub of_source_accepts : (status : ℕ) (old new : Option Bytes) (source certificate : Holding) → status ≡ DONE → OfBytes (λ s. OfBytes (λ c. PrintedRuling s c status old new) certificate) source →
+    OfBytes (λ s. OfBytes (λ c. PrintedAccepted s c old new) certificate) source
+of_source_accepts status old new Untold certificate done p = tt
+of_source_accepts status old new Nothing certificate done p = p
+of_source_accepts status old new (Held bytes) certificate done p = of_certificate_accepts bytes status old new certificate done p
+
+-- a promise that follows from another
+pub suffices_of : (old new : Option Bytes) (held : Holding) → OfBytes (λ bytes. PrintedIsExact bytes old new) held → OfBytes (λ bytes. PrintedSuffices bytes old new) held
+suffices_of old new Untold p = tt
+suffices_of old new Nothing p = p
+suffices_of old new (Held bytes) p = p.suffices

@@ -1,0 +1,55 @@
+//! What the words `replay` are answered: rulings on certificates.
+
+ghost use Rattle.std.specs.Prelude.{◌≡◌, ◌≤◌, ℕ, List, IfOk};
+ghost use Rattle.pc_app.specs.Answers.{OnReplay, ReplayAnswers};
+ghost use Rattle.pc_app.specs.Reading.{OrderIs, WithFile};
+ghost use Rattle.pc_app.specs.Words.{Replay};
+
+use crate::answer::{Answer, Stop};
+use crate::files::{certificate_in, source_in};
+use crate::ruling::answer_of_ruling;
+use pc_cert::Certificate;
+use pc_graph::lower;
+use pc_ports::Store;
+use pc_replay::accept;
+use pc_syntax::Program;
+use pc_text::NoMemory;
+use std::alloc::Global;
+
+/// The answer to `replay`.
+pub(crate) fn answer_to_replay<S: Store>(
+    alloc: Global,
+    source: &str,
+    certificate: &str,
+    store: &mut S,
+) -> Result<Answer, Stop>
+    ensures answered { OrderIs (S.holding store.old) (S.faults store.old) (S.faults store.new) (Replay source.now certificate.now) result }
+    ensures kept { (name : List ℕ) → S.holding store.new name ≡ S.holding store.old name }
+{
+    let program = source_in(alloc, source, store)?;
+    replay_program(alloc, &program, certificate, store)
+}
+
+/// The answer to `replay` on a program.
+fn replay_program<S: Store>(
+    alloc: Global,
+    program: &Program,
+    certificate: &str,
+    store: &mut S,
+) -> Result<Answer, Stop>
+    ensures answered { WithFile (OnReplay (S.holding store.old certificate.now) program.now) (S.holding store.old certificate.now) (S.faults store.old) (S.faults store.new) result }
+    ensures counted { S.faults store.old ≤ S.faults store.new }
+    ensures kept { (name : List ℕ) → S.holding store.new name ≡ S.holding store.old name }
+{
+    let certificate = certificate_in(alloc, certificate, store)?;
+    Ok(ruled(alloc, program, &certificate)?)
+}
+
+/// The answer to a certificate for a program.
+fn ruled(alloc: Global, program: &Program, certificate: &Certificate) -> Result<Answer, NoMemory>
+    ensures { IfOk result (λ a. ReplayAnswers program.now certificate.now a.status a.text) }
+{
+    let graph = lower(alloc, program)?;
+    let ruling = accept(&graph, certificate);
+    answer_of_ruling(alloc, certificate, &program.names, ruling)
+}
