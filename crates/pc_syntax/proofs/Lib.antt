@@ -16,3 +16,5 @@ pub mod ExprFits
 pub mod TreeFits
 pub mod Readings
 pub mod LoopLemmas
+pub mod Laid
+pub mod Examples

@@ -9,6 +9,7 @@ mod normal;
 mod program;
 mod reading;
 mod rows;
+mod showing;
 #[cfg(test)]
 mod tests;
 mod tree;

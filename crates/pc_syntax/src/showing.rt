@@ -1,0 +1,3 @@
+//! From programs to their canonical texts.
+
+mod level;
