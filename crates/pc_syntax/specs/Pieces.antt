@@ -46,8 +46,12 @@ spelling terminal.Minus = codes "-"
 spelling terminal.Star = codes "*"
 spelling terminal.And = codes "&&"
 
+-- so many spaces
+abbrev pub blanks : ℕ → Bytes
+blanks n = replicate n 32
+
 abbrev pub spelled : Piece → Bytes
-spelled (Blank n) = replicate n 32
+spelled (Blank n) = blanks n
 spelled LineEnd = 10 ∷ []
 spelled (Mark t) = spelling t
 spelled (Name w) = w

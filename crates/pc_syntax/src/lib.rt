@@ -1,6 +1,7 @@
 //! Programs: what they mean, how they are read from bytes and how they are shown.
 #![tactic(auto)]
 
+mod bounds;
 mod fault;
 mod laws;
 mod limits;
