@@ -19,6 +19,9 @@ pub mod LoopLemmas
 pub mod Laid
 pub mod ExprTexts
 pub mod RightTexts
+pub mod Stmts
+pub mod SaneNames
+pub mod NameTexts
 pub mod Weights
 pub mod StmtTexts
 pub mod Examples
