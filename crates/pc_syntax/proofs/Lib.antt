@@ -16,3 +16,12 @@ pub mod ExprFits
 pub mod TreeFits
 pub mod Readings
 pub mod LoopLemmas
+pub mod Laid
+pub mod ExprTexts
+pub mod RightTexts
+pub mod Stmts
+pub mod SaneNames
+pub mod NameTexts
+pub mod Weights
+pub mod StmtTexts
+pub mod Examples
