@@ -12,6 +12,7 @@ pub mod Stages
 pub mod Starting
 pub mod Settlement
 pub mod Adding
+pub mod Pairing
 pub mod Proving
 pub mod Totals
 pub mod Deciding

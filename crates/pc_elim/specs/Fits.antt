@@ -9,7 +9,7 @@ use Rattle.pc_elim.specs.declared.settle.Found.TheVariants.{Shown, At}
 use Rattle.pc_elim.specs.declared.made.Fault.{Fault}
 use Rattle.pc_elim.specs.declared.made.Fault.TheVariants.{Past, Full, NoMemory}
 use Rattle.pc_elim.specs.declared.made.TheConstants.{LIMIT}
-use Rattle.pc_elim.specs.Elimination.{Made, Bound, is_positive, factor, weigh, eliminated}
+use Rattle.pc_elim.specs.Elimination.{Made, Bound, is_positive, factor, weigh, eliminated, level}
 use Rattle.pc_elim.specs.Placing.{bound_of, turned, next_bound, greatest}
 use Rattle.pc_elim.specs.Settling.{settle}
 
@@ -38,12 +38,35 @@ PairFits k p n = is_positive (neg_ℤ (factor n k)) ≡ true → CombineFits k p
 abbrev pub AllPairsFit : ℕ → List Made → Made → Type 0
 AllPairsFit k all r = is_positive (factor r k) ≡ true → AllByRecursion (PairFits k r) all
 
--- the items are added, unless a number does not fit, there is no room, or no memory
+-- the items are added, unless a number does not fit, or there is no memory
 abbrev pub Adds : List Made → Type 0 → List Made → Result (Unit {0}) Fault → List Made → Type 0
 Adds items Fits old (Ok u) new = new ≡ old ++ items
 Adds items Fits old (Err Past) new = Fits → ⊥
-Adds items Fits old (Err Full) new = LIMIT < length old + length items
+Adds items Fits old (Err Full) new = ⊥
 Adds items Fits old (Err NoMemory) new = Unit {0}
+
+-- the places are added, unless there is no memory
+abbrev pub PlacesAdded : List ℕ → List ℕ → Result (Unit {0}) Fault → List ℕ → Type 0
+PlacesAdded places old (Ok u) new = new ≡ old ++ places
+PlacesAdded places old (Err Past) new = ⊥
+PlacesAdded places old (Err Full) new = ⊥
+PlacesAdded places old (Err NoMemory) new = Unit {0}
+
+-- no rows, with room for so many; Full comes exactly where these are too many
+abbrev pub RoomIs : ℕ → Result (List Made) Fault → Type 0
+RoomIs count (Ok rows) = (count ≤ LIMIT) × (rows ≡ [])
+RoomIs count (Err Full) = LIMIT < count
+RoomIs count (Err Past) = ⊥
+RoomIs count (Err NoMemory) = Unit {0}
+
+-- all that is computed to eliminate variable k is in range, and there is room for the rows
+abbrev pub EliminationFits : ℕ → List Made → Type 0
+EliminationFits k rs = AllByRecursion (AllPairsFit k rs) rs × length (eliminated k rs) ≤ LIMIT
+
+-- variable after variable
+abbrev pub LevelFits : ℕ → List Made → Type 0
+LevelFits zero rs = Unit {0}
+LevelFits (suc k) rs = LevelFits k rs × EliminationFits k (level k rs)
 
 -- the value, unless what has to be in range is not
 abbrev pub Unless : {A E : Type 0} → Result A E → A → Type 0 → Type 0
