@@ -6,11 +6,8 @@ use Rattle.pc_rows.specs.Evidence.{Proof}
 use Rattle.pc_text.specs.Bytes.{Bytes}
 use Rattle.pc_text.specs.Numerals.{numeral}
 use Rattle.pc_cert.specs.declared.certificate.Annotated.{Annotated}
+use Rattle.pc_cert.specs.Words.{Words}
 use Rattle.pc_cert.specs.Certificate.{Certificate, IsShowable, IsCertificate}
-
--- a line is its words
-abbrev pub Words : Type 0
-Words = List Bytes
 
 -- the words of counts behind a name
 abbrev pub counts : Bytes → List ℕ → Words

@@ -13,6 +13,14 @@ pub const POINTS: u32 = EDGES + 1;
 /// The most alternatives of a certificate that is read.
 pub const ALTERNATIVES: usize = 16;
 
+/// The numbers of points, edges and variables of a graph.
+#[derive(Clone, Copy, Debug, PartialEq, Eq)]
+pub(crate) struct Sizes {
+    pub points: u32,
+    pub edges: u32,
+    pub variables: u32,
+}
+
 /// An alternative: rows for each point, and for each edge the proofs of the rows that it owes, in
 /// the order in which it owes them. Points and edges are numbered as in the graph.
 #[derive(Drop)]

@@ -5,8 +5,19 @@
 
 mod alternatives;
 mod certificate;
+mod fault;
+mod line;
+mod reader;
+mod reading;
 mod row;
+mod showing;
+#[cfg(test)]
+mod tests;
+mod words;
 
 pub use alternatives::{condition, push_rows, text_determines_condition};
 pub use certificate::{ALTERNATIVES, Annotated, Certificate, EDGES, POINTS};
+pub use fault::CertFault;
+pub use reading::read_certificate;
 pub use row::push_row;
+pub use showing::show_certificate;

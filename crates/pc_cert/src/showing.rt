@@ -1,0 +1,135 @@
+//! The text of a certificate.
+
+ghost use Rattle.std.specs.Prelude.{◌≡◌, ◌≤◌, ◌<◌, ◌++◌, [], ◌∷◌, length, codes, OnOk, IfOk, pos};
+ghost use Rattle.std.specs.List.{flat_map};
+ghost use Rattle.pc_text.specs.Numerals.{numeral};
+ghost use Rattle.pc_cert.specs.Certificate.{IsShowable};
+ghost use Rattle.pc_cert.specs.CertificateTexts.{counts, row_line, proof_line, point_lines, edge_lines, alternative_lines, line_text, lines_text, numbered, certificate_text};
+
+use crate::certificate::{Annotated, Certificate};
+use pc_rows::{Proof, Row, Rows, VARIABLES};
+use pc_text::{NoMemory, Text};
+use sqlite_items::Items;
+use std::alloc::Global;
+
+/// Appends a further numeral of a line.
+fn push_further(text: &mut Text, number: i128) -> Result<(), NoMemory>
+    ensures { OnOk result (text.new ≡ text.old ++ (codes " " ++ numeral number)) }
+{
+    text.push(b' ')?;
+    text.push_number(number)
+}
+
+/// Appends the line that begins the rows of a point or the proofs of an edge.
+fn push_head(text: &mut Text, name: &[u8], number: usize, count: usize) -> Result<(), NoMemory>
+    ensures { OnOk result (text.new ≡ text.old ++ line_text (counts name.now (number ∷ count ∷ []))) }
+{
+    text.push_all(name)?;
+    push_further(text, number as i128)?;
+    push_further(text, count as i128)?;
+    text.push(b'\n')
+}
+
+/// Appends the line of a row over so many variables.
+fn push_row(text: &mut Text, r: &Row, variables: u32) -> Result<(), NoMemory>
+    requires { variables ≤ VARIABLES }
+    ensures { OnOk result (text.new ≡ text.old ++ line_text (row_line variables r.now)) }
+{
+    text.push_number(r.constant())?;
+    'variables: for v in 0..variables {
+        push_further(text, r.coefficient(v))?;
+    }
+    text.push(b'\n')
+}
+
+/// Appends the line of a proof.
+fn push_proof(text: &mut Text, p: &Proof) -> Result<(), NoMemory>
+    ensures { OnOk result (text.new ≡ text.old ++ line_text (proof_line p.now)) }
+{
+    text.push_number(p.goal().get())?;
+    let parts = p.parts();
+    'parts: for i in 0..parts.len() {
+        let part = parts.at(i);
+        push_further(text, i128::from(part.index))?;
+        push_further(text, part.multiplier.get())?;
+    }
+    text.push(b'\n')
+}
+
+/// Appends the lines of point `p`.
+fn push_point(text: &mut Text, variables: u32, p: usize, rows: &Rows) -> Result<(), NoMemory>
+    requires { variables ≤ VARIABLES }
+    ensures { OnOk result (text.new ≡ text.old ++ lines_text (point_lines variables p rows.now)) }
+{
+    push_head(text, b"point", p, rows.len())?;
+    'rows: for i in 0..rows.len() {
+        push_row(text, rows.at(i), variables)?;
+    }
+    Ok(())
+}
+
+/// Appends the lines of edge `e`.
+fn push_edge(text: &mut Text, e: usize, proofs: &[Proof]) -> Result<(), NoMemory>
+    ensures { OnOk result (text.new ≡ text.old ++ lines_text (edge_lines e proofs.now)) }
+{
+    push_head(text, b"edge", e, proofs.len())?;
+    'proofs: for p in proofs {
+        push_proof(text, p)?;
+    }
+    Ok(())
+}
+
+/// Appends the lines of points.
+fn push_points(text: &mut Text, variables: u32, points: &[Rows]) -> Result<(), NoMemory>
+    requires { variables ≤ VARIABLES }
+    ensures { OnOk result (text.new ≡ text.old ++ lines_text (numbered (point_lines variables) 0 points.now)) }
+{
+    'points: for p in 0..points.len() {
+        push_point(text, variables, p, &points[p])?;
+    }
+    Ok(())
+}
+
+/// Appends the lines of edges.
+fn push_edges(text: &mut Text, edges: &[Items<Proof>]) -> Result<(), NoMemory>
+    ensures { OnOk result (text.new ≡ text.old ++ lines_text (numbered edge_lines 0 edges.now)) }
+{
+    'edges: for e in 0..edges.len() {
+        push_edge(text, e, edges[e].as_slice())?;
+    }
+    Ok(())
+}
+
+/// Appends the lines of an alternative.
+fn push_alternative(text: &mut Text, variables: u32, a: &Annotated) -> Result<(), NoMemory>
+    requires { variables ≤ VARIABLES }
+    ensures { OnOk result (text.new ≡ text.old ++ lines_text (alternative_lines variables a.now)) }
+{
+    text.push_all(b"alternative\n")?;
+    push_points(text, variables, a.rows.as_slice())?;
+    push_edges(text, a.proofs.as_slice())
+}
+
+/// Appends the lines with the version and the sizes.
+fn push_sizes(text: &mut Text, c: &Certificate) -> Result<(), NoMemory> 
+{
+    text.push_all(b"precond 1\ngraph")?;
+    push_further(text, i128::from(c.points))?;
+    push_further(text, i128::from(c.edges))?;
+    push_further(text, i128::from(c.variables))?;
+    text.push(b'\n')
+}
+
+/// The text of a certificate.
+pub fn show_certificate(alloc: Global, c: &Certificate) -> Result<Text, NoMemory>
+    requires { IsShowable c.now }
+    ensures { IfOk result (λ text. text ≡ certificate_text c.now) }
+{
+    let mut text = Text::new(alloc);
+    push_sizes(&mut text, c)?;
+    'alternatives: for a in c.alternatives.as_slice() {
+        push_alternative(&mut text, c.variables, a)?;
+    }
+    text.push_all(b"end\n")?;
+    Ok(text)
+}
