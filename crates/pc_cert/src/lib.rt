@@ -13,6 +13,7 @@ mod row;
 mod showing;
 #[cfg(test)]
 mod tests;
+mod stub;
 mod words;
 
 pub use alternatives::{condition, push_rows, text_determines_condition};
@@ -20,4 +21,5 @@ pub use certificate::{ALTERNATIVES, Annotated, Certificate, EDGES, POINTS};
 pub use fault::CertFault;
 pub use reading::read_certificate;
 pub use row::push_row;
+pub use stub::show_condition;
 pub use showing::show_certificate;
