@@ -59,17 +59,17 @@ module _ (held : Holding) (bytes : Bytes) (status : ℕ) (text : Bytes) (old new
       let r = source_read held bytes status text e (OnRun script) (λ l. omega arith) (λ l. omega arith) file in
       of_bytes (λ of_script. PrintedVerdict bytes of_script status old new) script
       (λ of_script e'.
-          let c = script_read script of_script status text e' r.0.names.params (RunAnswers r.0) (λ l. omega arith) (λ l. omega arith) r.2 in
-          record {
-            program = r.0;
-            spelled = r.1;
-            choosing = c.0;
-            means = c.1;
-            verdict = c.2.verdict;
-            says = c.2.says;
-            status_is = c.2.status_is;
-            printed = is_written _ c.2.text_is;
-          })
+      let c = script_read script of_script status text e' r.0.names.params (RunAnswers r.0) (λ l. omega arith) (λ l. omega arith) r.2 in
+      record {
+        program = r.0;
+        spelled = r.1;
+        choosing = c.0;
+        means = c.1;
+        verdict = c.2.verdict;
+        says = c.2.says;
+        status_is = c.2.status_is;
+        printed = is_written _ c.2.text_is;
+      })
       (λ e'. of_nothing _ _ _ script status text e' r.2)
 
   pub replay_is_ruling : IsRuling status → (certificate : Holding) → OnSource (OnReplay certificate) held status text → OfBytes (λ of_certificate. PrintedRuling bytes of_certificate status old new) certificate
@@ -77,15 +77,15 @@ module _ (held : Holding) (bytes : Bytes) (status : ℕ) (text : Bytes) (old new
       let r = source_read held bytes status text e (OnReplay certificate) (λ l. omega arith) (λ l. omega arith) file in
       of_bytes (λ of_certificate. PrintedRuling bytes of_certificate status old new) certificate
       (λ of_certificate e'.
-          let c = certificate_read certificate of_certificate status text e' (ReplayAnswers r.0) (λ l. omega arith) (λ l. omega arith) r.2 in
-          record {
-            program = r.0;
-            spelled = r.1;
-            claim = c.0;
-            is_text = c.1;
-            status_is = c.2.status_is;
-            printed = is_written _ c.2.text_is;
-          })
+      let c = certificate_read certificate of_certificate status text e' (ReplayAnswers r.0) (λ l. omega arith) (λ l. omega arith) r.2 in
+      record {
+        program = r.0;
+        spelled = r.1;
+        claim = c.0;
+        is_text = c.1;
+        status_is = c.2.status_is;
+        printed = is_written _ c.2.text_is;
+      })
       (λ e'. of_nothing _ _ _ certificate status text e' r.2)
 
 done_is_accepted : (r : Ruling) → DONE ≡ ruling_status r → r ≡ answer.Accepted

@@ -9,7 +9,6 @@ use crate::answer::{Answer, Stop, one_line};
 use crate::limits::{CERTIFICATE_BYTES, SCRIPT_BYTES, SOURCE_BYTES};
 use crate::malformed::{malformed_certificate, malformed_script};
 use crate::refusal::refusal_of;
-
 use crate::status::{MALFORMED, REFUSED, TOO_LONG};
 use pc_cert::{CertFault, Certificate, read_certificate};
 use pc_ports::{FetchFault, Store};

@@ -36,11 +36,7 @@ pub(crate) fn answer_of_ruling(
 }
 
 /// The answer to a certificate that is accepted: so much, and what it says of the entry.
-fn accepted(
-    alloc: Global,
-    certificate: &Certificate,
-    names: &Names,
-) -> Result<Answer, NoMemory>
+fn accepted(alloc: Global, certificate: &Certificate, names: &Names) -> Result<Answer, NoMemory>
     requires { All (All (IsOver (length names.now.names))) (condition_of certificate.now) }
     ensures { IfOk result (λ a. (a.status ≡ DONE) × (a.text ≡ ruling_text names.now.names (condition_of certificate.now) Ruling.Accepted)) }
 {

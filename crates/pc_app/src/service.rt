@@ -40,12 +40,12 @@ pub fn serve<S: Store, K: Sink>(alloc: Global, words: &[String], store: &mut S, 
     // every entry state that meets the condition that was printed is safe.
     ensures accepted { (source certificate : List ℕ) → IsReplay (map string_bytes words.now) source certificate → result ≡ DONE →
         OfBytes (λ of_source. OfBytes (λ of_certificate. PrintedAccepted of_source of_certificate (K.written out.old) (K.written out.new))
-            (S.holding store.old certificate)) (S.holding store.old source) }
+        (S.holding store.old certificate)) (S.holding store.old source) }
 
     // Done or failed: the ruling was printed, which is the first refusal in the order of the rule.
     ensures ruled { (source certificate : List ℕ) → IsReplay (map string_bytes words.now) source certificate → IsRuling result →
         OfBytes (λ of_source. OfBytes (λ of_certificate. PrintedRuling of_source of_certificate result (K.written out.old) (K.written out.new))
-            (S.holding store.old certificate)) (S.holding store.old source) }
+        (S.holding store.old certificate)) (S.holding store.old source) }
 
     // Words `run F S`: the verdict on the machine's run of the program of F over the choices of S.
     ensures verdict { (source script : List ℕ) → IsRun (map string_bytes words.now) source script → IsVerdict result →

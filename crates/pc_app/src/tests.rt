@@ -2,7 +2,9 @@
 
 mod infer;
 mod outside;
+mod replay;
 mod run;
+mod show;
 
 ghost use Rattle.std.specs.Prelude.{◌<◌};
 

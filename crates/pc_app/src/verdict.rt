@@ -6,7 +6,7 @@ ghost use Rattle.pc_app.specs.Verdicts.{step_text, step_at, values_text, told, v
 
 use crate::answer::Answer;
 use crate::refusal::push_place;
-use crate::status::{DONE, PAST, FAILED};
+use crate::status::{DONE, FAILED, PAST};
 use pc_runner::Verdict;
 use pc_text::{Names, NoMemory, Place, Text};
 use std::alloc::Global;

@@ -7,18 +7,27 @@ ghost use Rattle.pc_app.specs.Words.{IsFile, IsPlain, IsOrder, ordered};
 #[derive(Clone, Copy)]
 pub(crate) enum Command<'a> {
     /// `infer F`: the condition of the source in the file.
-    Infer { source: &'a str },
+    Infer {
+        source: &'a str,
+    },
     /// `infer F --certificate`: its certificate.
-    Certify { source: &'a str },
+    Certify {
+        source: &'a str,
+    },
     /// `replay F C`: the ruling on a certificate for a source.
     Replay {
         source: &'a str,
         certificate: &'a str,
     },
     /// `run F S`: the verdict on the run of a source on a script.
-    Run { source: &'a str, script: &'a str },
+    Run {
+        source: &'a str,
+        script: &'a str,
+    },
     /// `show F`: the canonical text of a source.
-    Show { source: &'a str },
+    Show {
+        source: &'a str,
+    },
 }
 
 /// The command that the words are, where they are in a plain form.

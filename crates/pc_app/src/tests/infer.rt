@@ -12,13 +12,31 @@ fn infer(alloc: Global, source: &[u8]) -> Result<(u8, MemorySink), Fail> {
 }
 
 /// The sources of conditions, and the conditions.
-const CONDITIONS: [(&str, &str); 10] = [
+const CONDITIONS: [(&str, &str); 16] = [
+    (
+        "entry (x) { x = x + [-2, 3]; assert (x >= 0); assert (x <= 10); }",
+        "x - 2 >= 0 && -x + 7 >= 0",
+    ),
+    (
+        "entry (x) { if (*) { x = x + 1; } else { x = x - 1; } assert (x >= 0); }",
+        "x - 1 >= 0",
+    ),
+    ("entry (x) { if (x >= 0) { assert (x >= -5); } }", "true"),
+    ("entry (x) { assume (x >= 1); assert (x >= 0); }", "true"),
+    (
+        "entry (x) { x = 3*x + [-1, 2]; assert (x >= 0); assert (x <= 20); }",
+        "3*x - 1 >= 0 && -3*x + 18 >= 0",
+    ),
+    (
+        "entry (x) { if (x != 0) { assert (x > 0); } }",
+        "x - 1 >= 0",
+    ),
     ("entry (x) { }", "true"),
     (
         "entry (x, y) { assert (x >= 0); assert (y >= 3); assert (x + y < 9); }",
         "x >= 0 && y - 3 >= 0 && -x - y + 8 >= 0",
     ),
-    ("entry () { assert (1 <= 0); }", "-1 >= 0"),
+    ("entry () { assert (1 <= 0); }", "false"),
     (
         "entry (x, y) { x = x - y; assert (x == 0); }",
         "x - y >= 0 && -x + y >= 0",
@@ -78,7 +96,10 @@ const REFUSALS: [(&str, &str); 11] = [
         "entry (a, b, c, d, e, f, g, h, i, j, k, l, m, n, o, p, q) { }",
         "too-many-names 1:56",
     ),
-    ("entry (x) { if (*) { } }", "not-built 1:13"),
+    (
+        "entry (x) { if (*) { while (x < 3) { } } while (*) { } }",
+        "not-built 1:22",
+    ),
 ];
 
 #[test]

@@ -6,7 +6,8 @@ use pc_ports::Calls;
 use std::test::Fail;
 
 /// How the program is used.
-const USED: &str = "usage: precond infer F\n       precond run F S\n";
+const USED: &str =
+    "usage: precond infer F [--certificate]\n       precond replay F C\n       precond run F S\n       precond show F\n";
 
 #[test]
 fn other_words_are_told_the_usage(rt: HostRuntime) -> Result<(), Fail> {
@@ -16,6 +17,13 @@ fn other_words_are_told_the_usage(rt: HostRuntime) -> Result<(), Fail> {
         &["infer", "-f"],
         &["infer", ""],
         &["infer", "f", "s"],
+        &["infer", "-f", "--certificate"],
+        &["infer", "--certificate", "f"],
+        &["infer", "f", "--certificate", "s"],
+        &["replay", "f"],
+        &["replay", "f", "--certificate"],
+        &["show", ""],
+        &["show", "f", "s"],
         &["run", "f"],
         &["run", "f", "-s"],
         &["walk", "f"],
@@ -29,7 +37,15 @@ fn other_words_are_told_the_usage(rt: HostRuntime) -> Result<(), Fail> {
 
 #[test]
 fn a_file_that_is_not_held_is_told_by_the_status_alone(rt: HostRuntime) -> Result<(), Fail> {
-    for words in [&["infer", "g"][..], &["run", "g", "s"], &["run", "f", "g"]] {
+    for words in [
+        &["infer", "g"][..],
+        &["infer", "g", "--certificate"],
+        &["show", "g"],
+        &["run", "g", "s"],
+        &["run", "f", "g"],
+        &["replay", "g", "s"],
+        &["replay", "f", "g"],
+    ] {
         let (status, sink) = call(rt.alloc(), words, b"entry (x) { }", b"entry 1\n")?;
         assert_eq!(rt; status, STORE_FAILED);
         assert_eq!(rt; sink.written(), b"".as_slice());

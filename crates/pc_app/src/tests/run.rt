@@ -1,7 +1,7 @@
 //! Runs of programs on scripts.
 
 use super::call;
-use crate::{DONE, MALFORMED, PAST, REFUSED, SCRIPT_BYTES, TOO_LONG, FAILED};
+use crate::{DONE, FAILED, MALFORMED, PAST, REFUSED, SCRIPT_BYTES, TOO_LONG};
 use std::test::Fail;
 
 /// A loop that counts to 100, and lets `j` grow on the way.
