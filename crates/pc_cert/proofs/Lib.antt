@@ -7,3 +7,4 @@ pub mod Terms
 pub mod Rows
 pub mod Lines
 pub mod Growing
+pub mod ShortTexts
