@@ -22,6 +22,9 @@ pub mod RightTexts
 pub mod Stmts
 pub mod SaneNames
 pub mod NameTexts
+pub mod ShownExprs
+pub mod ShownStmts
+pub mod ShownPrograms
 pub mod Weights
 pub mod StmtTexts
 pub mod Examples
