@@ -25,6 +25,8 @@ pub mod NameTexts
 pub mod ShownExprs
 pub mod ShownStmts
 pub mod ShownPrograms
+pub mod SignCosts
+pub mod SignBounds
 pub mod Weights
 pub mod StmtTexts
 pub mod Examples
