@@ -27,6 +27,8 @@ pub mod ShownStmts
 pub mod ShownPrograms
 pub mod SignCosts
 pub mod SignBounds
+pub mod Seen
+pub mod SeenExprs
 pub mod Weights
 pub mod StmtTexts
 pub mod Examples
