@@ -29,6 +29,7 @@ pub mod SignCosts
 pub mod SignBounds
 pub mod Seen
 pub mod SeenExprs
+pub mod SeenTests
 pub mod Weights
 pub mod StmtTexts
 pub mod Examples

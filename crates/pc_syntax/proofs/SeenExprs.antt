@@ -49,7 +49,7 @@ at_most a b h = grind (arith, nat_tests)
 
 -- ---- the numbers of expressions
 
-literal-num : (z : ℤ) → short.has_literals (expr_is.Num z) ≡ is_literal z
+pub literal-num : (z : ℤ) → short.has_literals (expr_is.Num z) ≡ is_literal z
 literal-num z = ap short.has_literals (sym (expr_is.rolls-Num z)) ∙ fold-roll-ExprTree Bool short.literal_step (tree.Num z)
 
 literal-name : (s : Symbol) → short.has_literals (expr_is.Name s) ≡ true
