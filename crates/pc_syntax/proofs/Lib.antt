@@ -30,6 +30,7 @@ pub mod SignBounds
 pub mod Seen
 pub mod SeenExprs
 pub mod SeenTests
+pub mod SeenStmts
 pub mod Weights
 pub mod StmtTexts
 pub mod Examples
