@@ -119,6 +119,20 @@ two_blocks p q m k c e d i j =
     let l = i.level in
     record { passed = and_of p q i.passed j.passed; level = j.level ∙ l; room = λ h. room_by c.braces e.braces BRACES m k l (i.room h) (λ z. j.room (omega arith) z) }
 
+-- statements, and the brace behind them
+pub record Closes (b : Bool) (n : ℕ) (c d : Counts) : Type 0 where
+  pub passed : b ≡ true
+  pub level : d.braces ≡ c.braces - 1
+  pub room : c.braces ≤ BRACES → c.braces + n ≤ BRACES
+
+block_nests : (f : Symbol → Bool) (b : Bool) (n : ℕ) (s : Symbol) (c e d : Counts) → IsOne f (terminal.OpenBrace ∷ []) s c e → Closes b n e d → Nests b (1 + n) c d
+block_nests f b n s c e d i j =
+    let o = opening c.braces e.braces s.terminal i.is i.braces in
+    let sum = o.sum in
+    let more = o.room in
+    let l = j.level in
+    record { passed = j.passed; level = omega arith; room = λ h. let r = j.room (omega arith) in omega arith }
+
 module _ (src : Bytes) (n : ℕ) where
   -- a phrase, then one that holds behind a keyword
   after_keyword : {A : Type 0} (k : Terminal) (L : Lang A) (Q : A → Counts → Counts → Type 0) (R : Symbol × A → Counts → Counts → Type 0) →
@@ -168,7 +182,7 @@ module _ (src : Bytes) (n : ℕ) where
   tested = enclosed_sees src (stmts.is_test (grammar.is_paren n)) short.short_test (test_sees src n)
 
   -- a block, with its own braces
-  abbrev NestsBlock : List StmtTree → Counts → Counts → Type 0
+  abbrev pub NestsBlock : List StmtTree → Counts → Counts → Type 0
   NestsBlock xs = Nests (short.short_stmts xs) (1 + short.nesting_of xs)
 
   module _ (B : Lang (List StmtTree)) (b : Sees (spelled src) B NestsBlock) where
@@ -198,3 +212,53 @@ module _ (src : Bytes) (n : ℕ) where
         (both_sees (spelled src) B (stmts.is_after terminal.Else B) NestsBlock (λ ys. MayNest (short.short_stmts ys) (short.nesting_of ys))
         (λ z. Nests (short.short_stmts z.0 && short.short_stmts z.1) (1 + max (short.nesting_of z.0) (short.nesting_of z.1)))
         (λ z c e d i j. two_blocks (short.short_stmts z.0) (short.short_stmts z.1) (short.nesting_of z.0) (short.nesting_of z.1) c e d i j) b else_sees)))
+
+    while_sees : Sees (spelled src) (stmts.is_while_stmt (grammar.is_paren n) B) (λ t. Nests (short.short_stmt t) (short.nesting t))
+    while_sees = map_sees (spelled src) stmts.while_of (is_both (is_one terminal.While) (is_both (stmts.is_enclosed (stmts.is_test (grammar.is_paren n))) (is_both (stmts.is_tried (grammar.is_paren n)) B)))
+        (λ x. Nests (short.short_test x.1.0 && (list_all short.short_compare x.1.1.0 && short.short_stmts x.1.1.1)) (1 + short.nesting_of x.1.1.1)) (λ t. Nests (short.short_stmt t) (short.nesting t))
+        (λ x c d i. renamed _ (short.short_stmt (stmts.while_of x)) _ (short.nesting (stmts.while_of x)) c d (short-while x.0.place x.1.0 x.1.1.0 x.1.1.1) (nesting-while x.0.place x.1.0 x.1.1.0 x.1.1.1) i)
+        (after_keyword terminal.While (is_both (stmts.is_enclosed (stmts.is_test (grammar.is_paren n))) (is_both (stmts.is_tried (grammar.is_paren n)) B))
+        (λ y. Nests (short.short_test y.0 && (list_all short.short_compare y.1.0 && short.short_stmts y.1.1)) (1 + short.nesting_of y.1.1))
+        (λ x. Nests (short.short_test x.1.0 && (list_all short.short_compare x.1.1.0 && short.short_stmts x.1.1.1)) (1 + short.nesting_of x.1.1.1))
+        (λ x c e d i j. moved _ _ c e d (level_behind (spelled src) (terminal.While ∷ []) x.0 c e refl i) j)
+        (both_sees (spelled src) (stmts.is_enclosed (stmts.is_test (grammar.is_paren n))) (is_both (stmts.is_tried (grammar.is_paren n)) B) (λ t. Holds (short.short_test t))
+        (λ z. Nests (list_all short.short_compare z.0 && short.short_stmts z.1) (1 + short.nesting_of z.1))
+        (λ y. Nests (short.short_test y.0 && (list_all short.short_compare y.1.0 && short.short_stmts y.1.1)) (1 + short.nesting_of y.1.1))
+        (λ y c e d i j. tested_too (short.short_test y.0) _ _ c e d i j) tested
+        (both_sees (spelled src) (stmts.is_tried (grammar.is_paren n)) B (λ cs. Holds (list_all short.short_compare cs)) NestsBlock (λ z. Nests (list_all short.short_compare z.0 && short.short_stmts z.1) (1 + short.nesting_of z.1))
+        (λ z c e d i j. tested_too (list_all short.short_compare z.0) _ _ c e d i j) tried_sees b)))
+
+    stmt_sees : Sees (spelled src) (stmts.is_stmt (grammar.is_paren n) B) (λ t. Nests (short.short_stmt t) (short.nesting t))
+    stmt_sees = either_sees (spelled src) (stmts.is_set_stmt (grammar.is_paren n))
+        (is_either (stmts.is_if_stmt (grammar.is_paren n) B) (is_either (stmts.is_while_stmt (grammar.is_paren n) B) (is_either (stmts.is_assert_stmt (grammar.is_paren n)) (stmts.is_assume_stmt (grammar.is_paren n)))))
+        (λ t. Nests (short.short_stmt t) (short.nesting t)) set_sees
+        (either_sees (spelled src) (stmts.is_if_stmt (grammar.is_paren n) B) (is_either (stmts.is_while_stmt (grammar.is_paren n) B) (is_either (stmts.is_assert_stmt (grammar.is_paren n)) (stmts.is_assume_stmt (grammar.is_paren n))))
+        (λ t. Nests (short.short_stmt t) (short.nesting t)) if_sees
+        (either_sees (spelled src) (stmts.is_while_stmt (grammar.is_paren n) B) (is_either (stmts.is_assert_stmt (grammar.is_paren n)) (stmts.is_assume_stmt (grammar.is_paren n)))
+        (λ t. Nests (short.short_stmt t) (short.nesting t)) while_sees
+        (either_sees (spelled src) (stmts.is_assert_stmt (grammar.is_paren n)) (stmts.is_assume_stmt (grammar.is_paren n)) (λ t. Nests (short.short_stmt t) (short.nesting t)) assert_sees assume_sees)))
+
+    pub stmts_see : Sees (spelled src) (stmts.is_stmts_in (grammar.is_paren n) B) (λ xs. Nests (short.short_stmts xs) (short.nesting_of xs))
+    stmts_see = many_sees (spelled src) (stmts.is_stmt (grammar.is_paren n) B) (λ t. Nests (short.short_stmt t) (short.nesting t)) (λ xs. Nests (short.short_stmts xs) (short.nesting_of xs))
+        (λ c. record { passed = refl; level = refl; room = λ h. omega arith })
+        (λ t xs c e d i j.
+        let l = i.level in
+        record {
+          passed = and_of (short.short_stmt t) (short.short_stmts xs) i.passed j.passed;
+          level = j.level ∙ l;
+          room = λ h. let r = i.room h in let q = j.room (omega arith) in omega arith;
+        })
+        stmt_sees
+
+    braced : Sees (spelled src) (stmts.is_block_in (grammar.is_paren n) B) NestsBlock
+    braced = map_sees (spelled src) grammar.inner (is_both (is_one terminal.OpenBrace) (is_both (stmts.is_stmts_in (grammar.is_paren n) B) (is_one terminal.CloseBrace))) (λ x. NestsBlock x.1.0) NestsBlock (λ x c d i. i)
+        (both_sees (spelled src) (is_one terminal.OpenBrace) (is_both (stmts.is_stmts_in (grammar.is_paren n) B) (is_one terminal.CloseBrace)) (IsOne (spelled src) (terminal.OpenBrace ∷ [])) (λ y. Closes (short.short_stmts y.0) (short.nesting_of y.0))
+        (λ x. NestsBlock x.1.0) (λ x c e d i j. block_nests (spelled src) _ _ x.0 c e d i j) (one_sees (spelled src) (terminal.OpenBrace ∷ []))
+        (both_sees (spelled src) (stmts.is_stmts_in (grammar.is_paren n) B) (is_one terminal.CloseBrace) (λ xs. Nests (short.short_stmts xs) (short.nesting_of xs)) (IsOne (spelled src) (terminal.CloseBrace ∷ []))
+        (λ y. Closes (short.short_stmts y.0) (short.nesting_of y.0))
+        (λ y c e d i j. let l = i.level in let k = closing e.braces d.braces y.1.terminal j.is j.braces in record { passed = i.passed; level = k ∙ ap (λ (z : ℕ). z - 1) l; room = i.room })
+        stmts_see (one_sees (spelled src) (terminal.CloseBrace ∷ []))))
+
+pub block_sees : (src : Bytes) (n : ℕ) → Sees (spelled src) (stmts.is_block n) (NestsBlock src n)
+block_sees src zero = dead_sees (spelled src) (NestsBlock src zero)
+block_sees src (suc n) = braced src n (stmts.is_block n) (block_sees src n)
