@@ -31,6 +31,7 @@ pub mod Seen
 pub mod SeenExprs
 pub mod SeenTests
 pub mod SeenStmts
+pub mod SeenPrograms
 pub mod Weights
 pub mod StmtTexts
 pub mod Examples

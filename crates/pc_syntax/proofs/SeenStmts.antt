@@ -62,11 +62,11 @@ nesting-assume p cs = ap short.nesting (sym (stmt_is.rolls-Assume p cs)) ∙ fol
 
 -- ---- braces
 
-record Opens (n m : ℕ) : Type 0 where
-  sum : m ≡ n + 1
-  room : n < BRACES
+pub record Opens (n m : ℕ) : Type 0 where
+  pub sum : m ≡ n + 1
+  pub room : n < BRACES
 
-opening : (n m : ℕ) (k : Terminal) → has (terminal.OpenBrace ∷ []) k ≡ true → braces_after n k ≡ Some m → Opens n m
+pub opening : (n m : ℕ) (k : Terminal) → has (terminal.OpenBrace ∷ []) k ≡ true → braces_after n k ≡ Some m → Opens n m
 opening n m terminal.OpenBrace h e = by (nat_lt n BRACES) refl e
   where
     by : (b : Bool) → nat_lt n BRACES ≡ b → cond b (Some (n + 1)) None ≡ Some m → Opens n m
@@ -77,7 +77,7 @@ opening n m terminal.OpenBrace h e = by (nat_lt n BRACES) refl e
     by false g e = absurd (cc)
 opening n m k h e = absurd (cc)
 
-closing : (n m : ℕ) (k : Terminal) → has (terminal.CloseBrace ∷ []) k ≡ true → braces_after n k ≡ Some m → m ≡ n - 1
+pub closing : (n m : ℕ) (k : Terminal) → has (terminal.CloseBrace ∷ []) k ≡ true → braces_after n k ≡ Some m → m ≡ n - 1
 closing n m terminal.CloseBrace h e = let f : n - 1 ≡ m = cc in sym f
 closing n m k h e = absurd (cc)
 

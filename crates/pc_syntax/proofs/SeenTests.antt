@@ -38,7 +38,7 @@ pub record Holds (b : Bool) (c d : Counts) : Type 0 where
 abbrev pub Level : {A : Type 0} → A → Counts → Counts → Type 0
 Level a c d = d.braces ≡ c.braces
 
-seconds_are : {A : Type 0} (F : A → Bool) (ys : List (Symbol × A)) → list_all F (stmts.seconds ys) ≡ list_all (λ y. F y.1) ys
+pub seconds_are : {A : Type 0} (F : A → Bool) (ys : List (Symbol × A)) → list_all F (stmts.seconds ys) ≡ list_all (λ y. F y.1) ys
 seconds_are F [] = refl
 seconds_are F (y ∷ ys) = ap (λ b. F y.1 && b) (seconds_are F ys)
 
