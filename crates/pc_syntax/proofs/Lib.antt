@@ -32,6 +32,7 @@ pub mod SeenExprs
 pub mod SeenTests
 pub mod SeenStmts
 pub mod SeenPrograms
+pub mod SpelledSymbols
 pub mod Weights
 pub mod StmtTexts
 pub mod Examples
