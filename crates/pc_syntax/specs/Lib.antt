@@ -1,10 +1,15 @@
+pub mod Canonical
 pub mod Context
 pub mod Faults
 pub mod Forms
 pub mod Kept
 pub mod Laws
 pub mod Loops
+pub mod Named
+pub mod Pieces
 pub mod Sane
+pub mod Showable
+pub mod ShownTrees
 pub mod Trees
 pub mod Machine
 pub mod Values
