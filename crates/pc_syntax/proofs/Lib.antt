@@ -36,3 +36,6 @@ pub mod SpelledSymbols
 pub mod Weights
 pub mod StmtTexts
 pub mod Examples
+pub mod PieceLexemes
+pub mod PieceSymbols
+pub mod CanonicalTexts
