@@ -8,8 +8,12 @@ pub mod Loops
 pub mod Named
 pub mod Pieces
 pub mod Sane
+pub mod Showable
+pub mod ShownTrees
 pub mod Trees
 pub mod Machine
 pub mod Values
 pub mod Spelling
 pub mod Walks
+pub mod Matched
+pub mod CutTexts
