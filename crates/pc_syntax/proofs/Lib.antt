@@ -16,3 +16,9 @@ pub mod ExprFits
 pub mod TreeFits
 pub mod Readings
 pub mod LoopLemmas
+pub mod Laid
+pub mod ExprTexts
+pub mod RightTexts
+pub mod Weights
+pub mod StmtTexts
+pub mod Examples

@@ -1,9 +1,12 @@
+pub mod Canonical
 pub mod Context
 pub mod Faults
 pub mod Forms
 pub mod Kept
 pub mod Laws
 pub mod Loops
+pub mod Named
+pub mod Pieces
 pub mod Sane
 pub mod Trees
 pub mod Machine

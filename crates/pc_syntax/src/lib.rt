@@ -1,6 +1,7 @@
 //! Programs: what they mean, how they are read from bytes and how they are shown.
 #![tactic(auto)]
 
+mod bounds;
 mod fault;
 mod laws;
 mod limits;
@@ -9,6 +10,7 @@ mod normal;
 mod program;
 mod reading;
 mod rows;
+mod showing;
 #[cfg(test)]
 mod tests;
 mod tree;

@@ -6,16 +6,16 @@ ghost use Rattle.pc_rows.specs.Linear.{above_of, difference_of, negation, is_in_
 ghost use Rattle.pc_rows.specs.declared.row.TheConstants.{VARIABLES};
 ghost use Rattle.pc_syntax.specs.Context as spec;
 ghost use Rattle.pc_syntax.specs.Forms.{row_fits, rows_by, is_unequal};
-ghost use Rattle.pc_syntax.specs.Machine.{end_of};
 ghost use Rattle.pc_syntax.specs.Sane.{is_either};
 ghost use Rattle.pc_syntax.specs.Faults.{Gives};
 ghost use Rattle.pc_syntax.specs.Trees.{fit_compare, fit_each, fit_all, fit_test, fit_right, fit_choice};
 
+use crate::bounds::end_of;
 use crate::fault::SourceFault;
 use crate::tree::{Compare, Right, Test};
 use crate::walk::Formed;
 use crate::walk::exprs::formed;
-use pc_grammar::{Bound, Choice, CompareTree, Op, RightTree, TestTree};
+use pc_grammar::{Choice, CompareTree, Op, RightTree, TestTree};
 use pc_rows::Row;
 use pc_text::{Names, Place};
 use sqlite_items::Items;
@@ -204,14 +204,6 @@ pub fn test_edges(src: &[u8], tree: &TestTree) -> u32
     match tree {
         TestTree::Any => 2,
         TestTree::All(cs) => 1 + rows_in(cs.as_slice()),
-    }
-}
-
-fn end_of(bound: Bound) -> i128
-    ensures { result ≡ end_of bound }
-{
-    match bound {
-        Bound::At(n) => n,
     }
 }
 
