@@ -22,3 +22,8 @@ pub mod RightTexts
 pub mod Weights
 pub mod StmtTexts
 pub mod Examples
+pub mod PieceSymbols
+pub mod Derived
+pub mod DerivedLevels
+pub mod WalkedAgain
+pub mod DerivedExprs

@@ -13,3 +13,5 @@ pub mod Machine
 pub mod Values
 pub mod Spelling
 pub mod Walks
+pub mod Matched
+pub mod Bare
