@@ -22,6 +22,9 @@ module _ (src : Bytes) where
   abbrev pub Derive : {A : Type 0} → List Piece → Lang A → (A → Type 0) → Type 0
   Derive ps L Q = (u : Text) → AreOf src ps u → Tree L Q u
 
+  pub derive_as : {A : Type 0} (L : Lang A) (Q R : A → Type 0) (ps : List Piece) → ((a : A) → Q a → R a) → Derive ps L Q → Derive ps L R
+  derive_as L Q R ps f d u h = let t = d u h in record { tree = t.tree; derives = t.derives; holds = f t.tree t.holds }
+
   pub derive_map : {A B : Type 0} (g : A → B) (L : Lang A) (Q : A → Type 0) (R : B → Type 0) (ps : List Piece) → ((a : A) → Q a → R (g a)) → Derive ps L Q → Derive ps (is_map g L) R
   derive_map g L Q R ps f d u h = let t = d u h in record { tree = g t.tree; derives = (t.tree, refl, t.derives); holds = f t.tree t.holds }
 

@@ -27,3 +27,5 @@ pub mod Derived
 pub mod DerivedLevels
 pub mod WalkedAgain
 pub mod DerivedExprs
+pub mod ComparesAgain
+pub mod DerivedTests
