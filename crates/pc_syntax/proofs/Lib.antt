@@ -29,3 +29,4 @@ pub mod WalkedAgain
 pub mod DerivedExprs
 pub mod ComparesAgain
 pub mod DerivedTests
+pub mod DerivedRights
