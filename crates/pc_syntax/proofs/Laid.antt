@@ -1,5 +1,5 @@
 -- The pieces of each kind of expression and statement.
-use Rattle.std.proofs.Common.{◌≡◌, ℕ, ap, List, [], ◌∷◌, map}
+use Rattle.std.proofs.Common.{◌≡◌, ℕ, ℤ, ap, List, [], ◌∷◌, map}
 use Rattle.pc_text.specs.Bytes.{Bytes}
 use Rattle.pc_text.specs.declared.place.Place.{Place}
 use Rattle.pc_grammar.specs.declared.symbol.Terminal.TheVariants as terminal
@@ -15,7 +15,7 @@ use Rattle.pc_syntax.specs.declared.showing.level.Level.{Level}
 use Rattle.pc_syntax.specs.declared.showing.level.Level.TheVariants as level
 use Rattle.pc_syntax.specs.Pieces.{Piece, Mark, Name, Number}
 use Rattle.pc_syntax.specs.Canonical.{wraps_sum, wraps_product, wraps_negation, wrapped, joined, name_at, expr_step, expr_pieces, stmt_step, stmt_pieces}
-use Rattle.pc_syntax.proofs.Folds.{fold-name, fold-neg, fold-add, fold-sub, fold-mul, fold-set, fold-if, fold-while, fold-assert, fold-assume}
+use Rattle.pc_syntax.proofs.Folds.{fold-num, fold-name, fold-neg, fold-add, fold-sub, fold-mul, fold-set, fold-if, fold-while, fold-assert, fold-assume}
 
 module _ (names : List Bytes) where
   pub expr_laid : (x : Expr-F Expr) (l : Level) → expr_pieces names (roll-Expr x) l ≡ expr_step names (map-Expr Expr (Level → List Piece) (expr_pieces names) x) l
@@ -23,6 +23,9 @@ module _ (names : List Bytes) where
 
   pub stmt_laid : (x : Stmt-F Stmt) (n : ℕ) → stmt_pieces names (roll-Stmt x) n ≡ stmt_step names (map-Stmt Stmt (ℕ → List Piece) (stmt_pieces names) x) n
   stmt_laid x n = ap (λ (f : ℕ → List Piece). f n) (fold-roll-Stmt (ℕ → List Piece) (stmt_step names) x)
+
+  pub num_laid : (z : ℤ) (l : Level) → expr_pieces names (e.Num z) l ≡ Number z ∷ []
+  num_laid z l = ap (λ (f : Level → List Piece). f l) (fold-num (Level → List Piece) (expr_step names) z)
 
   pub name_laid : (v : ℕ) (l : Level) → expr_pieces names (e.Name v) l ≡ Name (name_at names v) ∷ []
   name_laid v l = ap (λ (f : Level → List Piece). f l) (fold-name (Level → List Piece) (expr_step names) v)

@@ -19,6 +19,14 @@ pub mod LoopLemmas
 pub mod Laid
 pub mod ExprTexts
 pub mod RightTexts
+pub mod Stmts
+pub mod SaneNames
+pub mod NameTexts
+pub mod ShownExprs
+pub mod ShownStmts
+pub mod ShownPrograms
+pub mod SignCosts
+pub mod SignBounds
 pub mod Weights
 pub mod StmtTexts
 pub mod Examples

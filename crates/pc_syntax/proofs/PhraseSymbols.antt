@@ -38,7 +38,7 @@ module _ (P : Lang ExprTree) (p : Over of_expressions P) where
       (both_over of_expressions (grammar.is_factor P) (is_many (grammar.is_star_factor P)) factor_over
       (many_over of_expressions (grammar.is_star_factor P) (both_over of_expressions (is_one terminal.Star) (grammar.is_factor P) (one_over of_expressions (terminal.Star ∷ []) refl) factor_over)))
 
-  expr_over : Over of_expressions (grammar.is_expr_in P)
+  pub expr_over : Over of_expressions (grammar.is_expr_in P)
   expr_over = map_over of_expressions grammar.all_sums (is_both (grammar.is_addend P) (is_many (grammar.is_sign_addend P)))
       (both_over of_expressions (grammar.is_addend P) (is_many (grammar.is_sign_addend P)) addend_over
       (many_over of_expressions (grammar.is_sign_addend P) (both_over of_expressions (is_one_of grammar.signs) (grammar.is_addend P) (one_over of_expressions grammar.signs refl) addend_over)))

@@ -8,6 +8,8 @@ pub mod Loops
 pub mod Named
 pub mod Pieces
 pub mod Sane
+pub mod Showable
+pub mod ShownTrees
 pub mod Trees
 pub mod Machine
 pub mod Values

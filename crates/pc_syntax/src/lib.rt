@@ -26,4 +26,5 @@ pub use pc_text::Names;
 pub use program::Program;
 pub use reading::read;
 pub use rows::{form_of, rows_of};
+pub use showing::show;
 pub use tree::{Compare, Compares, Expr, Right, Stmt, Stmts, Test};
