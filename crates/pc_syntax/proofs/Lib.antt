@@ -38,3 +38,4 @@ pub mod DerivedExprs
 pub mod ComparesAgain
 pub mod DerivedTests
 pub mod DerivedRights
+pub mod StmtsAgain
