@@ -6,6 +6,9 @@ use Rattle.pc_grammar.specs.declared.symbol.Terminal.{Terminal}
 use Rattle.pc_grammar.specs.declared.symbol.Terminal.TheVariants as terminal
 use Rattle.pc_grammar.specs.Combinators.{Text, Lang, is_map, is_both, is_either, is_maybe, is_many}
 use Rattle.pc_grammar.specs.Terminals.{has, is_one, is_one_of}
+use Rattle.pc_grammar.specs.Expressions.{inner}
+use Rattle.pc_grammar.specs.Statements.{optional, is_after}
+use Rattle.pc_grammar.proofs.Combinators.{append-nil}
 use Rattle.pc_syntax.specs.Pieces.{Piece, Blank, LineEnd, Mark, Name, Number}
 use Rattle.pc_syntax.specs.Matched.{AreOf}
 use Rattle.pc_syntax.specs.Context.{word}
@@ -91,6 +94,31 @@ module _ (src : Bytes) where
       let a = d p.left p.first in
       let b = e p.right p.second in
       record { tree = a.tree ∷ b.tree; derives = (p.left, p.right, p.split, a.derives, b.derives); holds = (a.holds, b.holds) }
+
+  -- ---- between two marks, behind a keyword, and before the end of a line
+
+  pub derive_between : {A : Type 0} (k j : Terminal) (L : Lang A) (X Y : Symbol → Type 0) (Q : A → Type 0) (os ps cs : List Piece) → Derive os (is_one k) X → Derive ps L Q → Derive cs (is_one j) Y →
+      Derive (os ++ (ps ++ cs)) (is_map inner (is_both (is_one k) (is_both L (is_one j)))) Q
+  derive_between k j L X Y Q os ps cs o d c = derive_map inner (is_both (is_one k) (is_both L (is_one j))) (Both X (Both Q Y)) Q (os ++ (ps ++ cs)) (λ x h. h.1.0)
+      (derive_both (is_one k) (is_both L (is_one j)) X (Both Q Y) os (ps ++ cs) o (derive_both L (is_one j) Q Y ps cs d c))
+
+  pub derive_missing : {A : Type 0} (k : Terminal) (L : Lang (List A)) → Derive [] (is_after k L) (λ xs. xs ≡ [])
+  derive_missing k L = derive_map optional (is_maybe (is_both (is_one k) L)) (λ o. o ≡ None) (λ xs. xs ≡ []) [] (λ o h. ap optional h) (derive_none (is_both (is_one k) L))
+
+  pub derive_after : {A : Type 0} (k : Terminal) (L : Lang (List A)) (X : Symbol → Type 0) (Q : List A → Type 0) (os ps : List Piece) → Derive os (is_one k) X → Derive ps L Q → Derive (os ++ ps) (is_after k L) Q
+  derive_after {A = A} k L X Q os ps o d = derive_map optional (is_maybe (is_both (is_one k) L)) (Given (Both X Q)) Q (os ++ ps) by
+      (derive_some (is_both (is_one k) L) (Both X Q) (os ++ ps) (derive_both (is_one k) L X Q os ps o d))
+    where
+      by : (o : Option (Symbol × List A)) → Given (Both X Q) o → Q (optional o)
+      by None h = absurd h
+      by (Some x) h = h.1
+
+  pub derive_ended : {A : Type 0} (L : Lang A) (Q : A → Type 0) (ps : List Piece) → Derive ps L Q → Derive (ps ++ LineEnd ∷ []) L Q
+  derive_ended L Q ps d u h = let p = parts_of src ps (LineEnd ∷ []) u h in by p.left p.right p.split p.first p.second
+    where
+      by : (v w : Text) → u ≡ v ++ w → AreOf src ps v → AreOf src [] w → Tree L Q u
+      by v [] e i j = rw (e, append-nil v) (d v i)
+      by v (s ∷ w) e i j = absurd j
 
   -- ---- at each depth of nesting from some on
 

@@ -50,10 +50,10 @@ behind_mark src t ps [] h = absurd h
 behind_mark src t ps (s ∷ u) (e, h) = record { symbol = s; rest = u; split = refl; is = e; more = h }
 
 -- a name has its number
-numbered : (names : List Bytes) → AreDistinct names → (v : ℕ) → v < length names → number_of names (name_at names v) ≡ Some v
+pub numbered : (names : List Bytes) → AreDistinct names → (v : ℕ) → v < length names → number_of names (name_at names v) ≡ Some v
 numbered names distinct v h = distinct v (name_at names v) (slice_get-get_or names v [] h)
 
-below : (a b : ℕ) → nat_lt a b ≡ true → a < b
+pub below : (a b : ℕ) → nat_lt a b ≡ true → a < b
 below a b h = grind (arith, nat_tests)
 
 module _ (src : Bytes) (P : Lang ExprTree) where

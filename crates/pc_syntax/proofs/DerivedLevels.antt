@@ -13,7 +13,7 @@ use Rattle.pc_syntax.specs.declared.showing.level.Level.{Level}
 use Rattle.pc_syntax.specs.declared.showing.level.Level.TheVariants as level
 use Rattle.pc_syntax.specs.Pieces.{Piece, Mark}
 use Rattle.pc_syntax.specs.Canonical.{wraps_sum, wraps_product, wraps_negation, wrapped}
-use Rattle.pc_syntax.proofs.Derived.{Tree, Derive, Derivable, derive_map, derive_both, derive_one, derive_right}
+use Rattle.pc_syntax.proofs.Derived.{Tree, Derive, Derivable, derive_one, derive_right, derive_between}
 
 -- what the grammar takes at a level
 abbrev pub at_level : Level → ℕ → Lang ExprTree
@@ -84,14 +84,10 @@ module _ (src : Bytes) (Q : ExprTree → Type 0) (ps : List Piece) where
   abbrev Enclosed : List Piece
   Enclosed = Mark terminal.OpenParen ∷ ps ++ Mark terminal.CloseParen ∷ []
 
-  abbrev Inside : Symbol × (ExprTree × Symbol) → Type 0
-  Inside x = (x.0.terminal ≡ terminal.OpenParen) × (Q x.1.0 × (x.1.1.terminal ≡ terminal.CloseParen))
-
   in_parens : (n : ℕ) → Derive src ps (is_expr_in (is_paren n)) Q → Derive src Enclosed (is_atom (is_paren (suc n))) Q
   in_parens n d = derive_right src _ _ Q Enclosed (derive_right src _ _ Q Enclosed
-      (derive_map src inner (is_both (is_one terminal.OpenParen) (is_both (is_expr_in (is_paren n)) (is_one terminal.CloseParen))) Inside Q Enclosed (λ x h. h.1.0)
-      (derive_both src (is_one terminal.OpenParen) (is_both (is_expr_in (is_paren n)) (is_one terminal.CloseParen)) _ _ (Mark terminal.OpenParen ∷ []) (ps ++ Mark terminal.CloseParen ∷ []) (derive_one src terminal.OpenParen refl)
-      (derive_both src (is_expr_in (is_paren n)) (is_one terminal.CloseParen) Q _ ps (Mark terminal.CloseParen ∷ []) d (derive_one src terminal.CloseParen refl)))))
+      (derive_between src terminal.OpenParen terminal.CloseParen (is_expr_in (is_paren n)) _ _ Q (Mark terminal.OpenParen ∷ []) ps (Mark terminal.CloseParen ∷ [])
+      (derive_one src terminal.OpenParen refl) d (derive_one src terminal.CloseParen refl)))
 
   enclosed_at : At level.Expression → Derivable src Enclosed (at_level level.Atom) Q
   enclosed_at (least, d) = (suc least, by)

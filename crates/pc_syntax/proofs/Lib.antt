@@ -39,3 +39,5 @@ pub mod ComparesAgain
 pub mod DerivedTests
 pub mod DerivedRights
 pub mod StmtsAgain
+pub mod StmtPhrases
+pub mod DerivedStmts
