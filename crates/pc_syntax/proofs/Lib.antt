@@ -41,3 +41,5 @@ pub mod DerivedRights
 pub mod StmtsAgain
 pub mod StmtPhrases
 pub mod DerivedStmts
+pub mod NamesAgain
+pub mod DerivedPrograms
