@@ -43,3 +43,5 @@ pub mod StmtPhrases
 pub mod DerivedStmts
 pub mod NamesAgain
 pub mod DerivedPrograms
+pub mod CountedPieces
+pub mod CountedExprs
