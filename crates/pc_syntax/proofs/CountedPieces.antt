@@ -6,7 +6,7 @@ use Rattle.pc_grammar.specs.declared.symbol.Terminal.{Terminal}
 use Rattle.pc_grammar.specs.declared.symbol.Terminal.TheVariants as terminal
 use Rattle.pc_grammar.specs.declared.limits.Counts.{Counts}
 use Rattle.pc_grammar.specs.Combinators.{Text, starts}
-use Rattle.pc_grammar.specs.Terminals.{the}
+use Rattle.pc_grammar.specs.Terminals.{the, has}
 use Rattle.pc_grammar.specs.Limits.{and_on, counted, counts}
 use Rattle.pc_grammar.proofs.Scans.{counts_append}
 use Rattle.pc_syntax.specs.Pieces.{Piece, Blank, LineEnd, Mark, Name, Number}
@@ -68,3 +68,11 @@ module _ (src : Bytes) where
   count_name w P Q F f c p [] v h g = absurd h
   count_name w P Q F f c p (s ∷ []) v (e, i, h) g = passes_first c s [] v Q Q (f c s v p e g) (λ d q. record { after = d; runs = refl; holds = q })
   count_name w P Q F f c p (s ∷ z ∷ u) v (e, i, h) g = absurd h
+
+  pub count_as : (P P' Q Q' : Counts → Type 0) (F : Text → Type 0) (ps : List Piece) → ((c : Counts) → P' c → P c) → ((c : Counts) → Q c → Q' c) → Count ps P Q F → Count ps P' Q' F
+  count_as P P' Q Q' F ps f g x c p u v h k = let y = x c (f c p) u v h k in record { after = y.after; runs = y.runs; holds = g y.after y.holds }
+
+  -- a mark before which no choice begins
+  pub next_mark : (t : Terminal) → has (terminal.OpenBracket ∷ []) t ≡ false → (ps : List Piece) (u v : Text) → AreOf src (Mark t ∷ ps) u → NoChoice (u ++ v)
+  next_mark t i ps [] v h = absurd h
+  next_mark t i ps (s ∷ u) v (e, h) = ap (has (terminal.OpenBracket ∷ [])) e ∙ i

@@ -45,3 +45,4 @@ pub mod NamesAgain
 pub mod DerivedPrograms
 pub mod CountedPieces
 pub mod CountedExprs
+pub mod CountedMarks
