@@ -46,3 +46,4 @@ pub mod DerivedPrograms
 pub mod CountedPieces
 pub mod CountedExprs
 pub mod CountedMarks
+pub mod CountedTests
