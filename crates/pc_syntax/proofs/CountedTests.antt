@@ -93,3 +93,42 @@ module _ (src : Bytes) (names : List Bytes) (b : ℕ) where
   bound_counted n (end.At (pos m)) = count_as src (Within b n 0) (Within b n 0) (Within b n 0) (Here b n) NoChoice (Number (pos m) ∷ []) (λ c w. w) (here b n 0) (pieces_counted src b n (Number (pos m) ∷ []) refl 0 (omega arith))
   bound_counted n (end.At (negsuc m)) = count_as src (Within b n 0) (Within b n 0) (Within b n 1) (Here b n) NoChoice (Mark terminal.Minus ∷ Number (pos (suc m)) ∷ []) (λ c w. w) (here b n 1)
       (pieces_counted src b n (Mark terminal.Minus ∷ Number (pos (suc m)) ∷ []) refl 0 (omega arith))
+
+  -- a "+" before a choice is no sign
+  choice_plus : (n : ℕ) → Count src (Mark terminal.Plus ∷ []) (Here b n) (Here b n) (λ v. starts (the terminal.OpenBracket) v ≡ true)
+  choice_plus n = count_mark src terminal.Plus (Here b n) (Here b n) (λ v. starts (the terminal.OpenBracket) v ≡ true) (λ c s r p e k. record {
+    after = record { braces = c.braces; signs = c.signs; ands = c.ands; behind_keyword = false };
+    runs = rw (e, k) refl;
+    holds = record { braces_are = p.braces_are; ands_are = p.ands_are };
+  })
+
+  begins_choice : (ps : List Piece) (w v : Text) → AreOf src (Mark terminal.OpenBracket ∷ ps) w → starts (the terminal.OpenBracket) (w ++ v) ≡ true
+  begins_choice ps [] v h = absurd h
+  begins_choice ps (s ∷ w) v (e, h) = ap (has (terminal.OpenBracket ∷ [])) e
+
+  interval_counted : (n : ℕ) (lo hi : Bound) →
+      Count src (Mark terminal.OpenBracket ∷ bound_pieces lo ++ (Mark terminal.Comma ∷ Blank 1 ∷ bound_pieces hi ++ Mark terminal.CloseBracket ∷ [])) (Here b n) (Here b n) Anything
+  interval_counted n lo hi =
+      let shut = count_as src (Here b n) (Here b n) (Within b n 0) (Here b n) Anything (Mark terminal.CloseBracket ∷ []) (λ c p. p) (here b n 0) (reset src b n terminal.CloseBracket (λ c s r e. rw e refl)) in
+      let high = count_both src (Within b n 0) (Here b n) (Here b n) NoChoice Anything (bound_pieces hi) (Mark terminal.CloseBracket ∷ []) (λ w v i f. next_mark src terminal.CloseBracket refl [] w v i) (bound_counted n hi) shut in
+      let comma = count_then src (Here b n) (Within b n 0) (Here b n) Anything (Mark terminal.Comma ∷ Blank 1 ∷ []) (bound_pieces hi ++ Mark terminal.CloseBracket ∷ []) (reset src b n terminal.Comma (λ c s r e. rw e refl)) high in
+      let low = count_both src (Within b n 0) (Here b n) (Here b n) NoChoice Anything (bound_pieces lo) (Mark terminal.Comma ∷ Blank 1 ∷ bound_pieces hi ++ Mark terminal.CloseBracket ∷ [])
+          (λ w v i f. next_mark src terminal.Comma refl (Blank 1 ∷ bound_pieces hi ++ Mark terminal.CloseBracket ∷ []) w v i) (bound_counted n lo) comma in
+      count_then src (Here b n) (Within b n 0) (Here b n) Anything (Mark terminal.OpenBracket ∷ []) (bound_pieces lo ++ (Mark terminal.Comma ∷ Blank 1 ∷ bound_pieces hi ++ Mark terminal.CloseBracket ∷ []))
+      (reset src b n terminal.OpenBracket (λ c s r e. rw e refl)) low
+
+  choice_counted : (n : ℕ) (o : Option Choice) → Count src (choice_pieces o) (Here b n) (Here b n) NoChoice
+  choice_counted n None = count_none src (Here b n) NoChoice
+  choice_counted n (Some c) =
+      let ps = Mark terminal.OpenBracket ∷ bound_pieces c.lo ++ (Mark terminal.Comma ∷ Blank 1 ∷ bound_pieces c.hi ++ Mark terminal.CloseBracket ∷ []) in
+      count_both src (Here b n) (Here b n) (Here b n) (λ v. starts (the terminal.OpenBracket) v ≡ true) NoChoice (spaced terminal.Plus) ps
+      (λ w v i f. begins_choice (bound_pieces c.lo ++ (Mark terminal.Comma ∷ Blank 1 ∷ bound_pieces c.hi ++ Mark terminal.CloseBracket ∷ [])) w v i) (choice_plus n) (λ d p u v i f. interval_counted n c.lo c.hi d p u v i tt)
+
+  choice_no_choice : (o : Option Choice) (w v : Text) → AreOf src (choice_pieces o) w → NoChoice v → NoChoice (w ++ v)
+  choice_no_choice None [] v h f = f
+  choice_no_choice None (s ∷ w) v h f = absurd h
+  choice_no_choice (Some c) w v h f = next_mark src terminal.Plus refl (Blank 1 ∷ Mark terminal.OpenBracket ∷ bound_pieces c.lo ++ (Mark terminal.Comma ∷ Blank 1 ∷ bound_pieces c.hi ++ Mark terminal.CloseBracket ∷ [])) w v h
+
+  pub right_counted : (n : ℕ) (r : Right) → shown_expr names r.expr ≡ true → Count src (right_pieces names r) (Within b n 0) (Here b n) NoChoice
+  right_counted n r h = count_both src (Within b n 0) (Here b n) (Here b n) NoChoice NoChoice (expr_pieces names r.expr level.Expression) (choice_pieces r.choice) (choice_no_choice r.choice)
+      (expr_counted names src b n r.expr h) (choice_counted n r.choice)

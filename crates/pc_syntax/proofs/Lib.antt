@@ -47,3 +47,4 @@ pub mod CountedPieces
 pub mod CountedExprs
 pub mod CountedMarks
 pub mod CountedTests
+pub mod CountedStmts
