@@ -30,14 +30,14 @@ use Rattle.pc_syntax.proofs.CountedTests.{conjunction_counted, test_counted, rig
 module _ (src : Bytes) (names : List Bytes) where
   -- ---- what statements are made of
 
-  opened_counted : (b : ℕ) (t : Terminal) → Begins t → (ps : List Piece) → Count src ps (Within b 0 0) (Braces b) NoChoice → Count src (opened t ps) (Braces b) (Braces b) Anything
+  pub opened_counted : (b : ℕ) (t : Terminal) → Begins t → (ps : List Piece) → Count src ps (Within b 0 0) (Braces b) NoChoice → Count src (opened t ps) (Braces b) (Braces b) Anything
   opened_counted b t f ps d =
       let inside = count_both src (Within b 0 0) (Braces b) (Braces b) NoChoice Anything ps (Mark terminal.CloseParen ∷ []) (λ w v i g. next_mark src terminal.CloseParen refl [] w v i) d (close_paren src b) in
       let paren = count_then src (Keyword b) (Within b 0 0) (Braces b) Anything (Mark terminal.OpenParen ∷ []) (ps ++ Mark terminal.CloseParen ∷ []) (open_paren src b) inside in
       count_then src (Braces b) (Keyword b) (Braces b) Anything (Mark t ∷ Blank 1 ∷ []) (Mark terminal.OpenParen ∷ ps ++ Mark terminal.CloseParen ∷ []) (keyword src b t f) paren
 
   -- the end of a statement
-  semicolon : (b : ℕ) → Count src (Mark terminal.Semicolon ∷ LineEnd ∷ []) (Braces b) (Braces b) Anything
+  pub semicolon : (b : ℕ) → Count src (Mark terminal.Semicolon ∷ LineEnd ∷ []) (Braces b) (Braces b) Anything
   semicolon b = closed src b terminal.Semicolon (λ c s r e. rw e refl)
 
   line_end : (b : ℕ) → Count src (LineEnd ∷ []) (Braces b) (Braces b) Anything

@@ -48,3 +48,4 @@ pub mod CountedExprs
 pub mod CountedMarks
 pub mod CountedTests
 pub mod CountedStmts
+pub mod CountedPrograms
