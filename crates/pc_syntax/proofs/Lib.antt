@@ -27,6 +27,12 @@ pub mod ShownStmts
 pub mod ShownPrograms
 pub mod SignCosts
 pub mod SignBounds
+pub mod Seen
+pub mod SeenExprs
+pub mod SeenTests
+pub mod SeenStmts
+pub mod SeenPrograms
+pub mod SpelledSymbols
 pub mod Weights
 pub mod StmtTexts
 pub mod Examples

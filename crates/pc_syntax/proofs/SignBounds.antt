@@ -26,7 +26,7 @@ use Rattle.pc_syntax.proofs.SignCosts.{cost, cost-append, sign_costs}
 rolled : (t : ExprTree-F ExprTree) (l : Level) → signs (roll-ExprTree t) l ≡ sign_step (map-ExprTree ExprTree (Level → ℕ) signs t) l
 rolled t l = ap (λ (f : Level → ℕ). f l) (fold-roll-ExprTree (Level → ℕ) sign_step t)
 
-signs-num : (z : ℤ) (l : Level) → signs (expr_is.Num z) l ≡ 0
+pub signs-num : (z : ℤ) (l : Level) → signs (expr_is.Num z) l ≡ 0
 signs-num z l = ap (λ t. signs t l) (sym (expr_is.rolls-Num z)) ∙ rolled (tree.Num z) l
 
 signs-name : (s : Symbol) (l : Level) → signs (expr_is.Name s) l ≡ 0
