@@ -11,7 +11,7 @@ use Rattle.pc_grammar.specs.Limits.{and_on, counted, counts}
 use Rattle.pc_grammar.proofs.Scans.{counts_append}
 use Rattle.pc_syntax.specs.Pieces.{Piece, Blank, LineEnd, Mark, Name, Number}
 use Rattle.pc_syntax.specs.Matched.{AreOf}
-use Rattle.pc_syntax.proofs.PieceSymbols.{Parts, parts_of}
+use Rattle.pc_syntax.proofs.PieceParts.{Parts, parts_of}
 
 -- no symbol of a word is past a limit, and this holds of the counts behind it
 pub record Passes (c : Counts) (u v : Text) (Q : Counts → Type 0) : Type 0 where

@@ -32,7 +32,7 @@ use Rattle.pc_syntax.specs.Bare.{nowhere, bare_expr_step, bare_expr}
 use Rattle.pc_syntax.proofs.Results.{and_is}
 use Rattle.pc_syntax.proofs.Exprs.{by_cases}
 use Rattle.pc_syntax.proofs.Laid.{expr_laid}
-use Rattle.pc_syntax.proofs.PieceSymbols.{Parts, parts_of}
+use Rattle.pc_syntax.proofs.PieceParts.{Parts, parts_of}
 use Rattle.pc_syntax.proofs.Derived.{Tree, Derive, Derivable, Given, derive_map, derive_both, derive_left, derive_right, derive_one, derive_name, derive_number, derive_some}
 use Rattle.pc_syntax.proofs.DerivedLevels.{at_level, longer_product, longer_sum, sum_at, product_at, negation_at, atom_at}
 use Rattle.pc_syntax.proofs.WalkedAgain.{Bound, bound, IsExpr, number_again, name_again, neg_again, add_again, sub_again, mul_again}

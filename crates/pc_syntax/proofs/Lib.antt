@@ -36,7 +36,7 @@ pub mod SpelledSymbols
 pub mod Weights
 pub mod StmtTexts
 pub mod Examples
-pub mod PieceSymbols
+pub mod PieceParts
 pub mod Derived
 pub mod DerivedLevels
 pub mod WalkedAgain
@@ -55,3 +55,4 @@ pub mod CountedMarks
 pub mod CountedTests
 pub mod CountedStmts
 pub mod CountedPrograms
+pub mod ReadBack

@@ -17,3 +17,4 @@ pub mod Spelling
 pub mod Walks
 pub mod Matched
 pub mod Bare
+pub mod ReadsBack
