@@ -56,3 +56,4 @@ pub mod CountedTests
 pub mod CountedStmts
 pub mod CountedPrograms
 pub mod ReadBack
+pub mod BareExamples
