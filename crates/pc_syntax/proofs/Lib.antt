@@ -36,6 +36,9 @@ pub mod SpelledSymbols
 pub mod Weights
 pub mod StmtTexts
 pub mod Examples
+pub mod PieceLexemes
+pub mod PieceSymbols
+pub mod CanonicalTexts
 pub mod PieceParts
 pub mod Derived
 pub mod DerivedLevels

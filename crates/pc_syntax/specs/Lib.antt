@@ -16,5 +16,6 @@ pub mod Values
 pub mod Spelling
 pub mod Walks
 pub mod Matched
+pub mod CutTexts
 pub mod Bare
 pub mod ReadsBack

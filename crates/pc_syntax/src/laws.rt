@@ -3,6 +3,7 @@
 
 ghost use Rattle.pc_syntax.specs.Laws.{FormsAreRight, ComparisonsAreRows, ConjunctionsAreRows, UnequalsAreRows};
 ghost use Rattle.pc_syntax.specs.Kept.{WalksAreSane};
+ghost use Rattle.pc_syntax.specs.CutTexts.{CanonicalTextsAreCut};
 ghost use Rattle.pc_syntax.specs.Spelling.{EachTextHasOne, EachTextHasNoMore};
 
 /// A normal form has the value of its expression at every state, and is in range.
@@ -26,4 +27,9 @@ pub fn walks_are_sane()
 pub fn texts_have_one_answer()
     ensures one { EachTextHasOne }
     ensures no_more { EachTextHasNoMore }
+{}
+
+/// The canonical text of a program has the tokens of its pieces.
+pub fn canonical_texts_are_cut()
+    ensures { CanonicalTextsAreCut }
 {}

@@ -1,0 +1,19 @@
+-- A canonical text has the tokens of its pieces.
+use Rattle.std.specs.Prelude.{List, Ok}
+use Rattle.pc_text.specs.Bytes.{Bytes}
+use Rattle.pc_text.specs.Answers as tokens
+use Rattle.pc_text.specs.declared.token.Token.{Token}
+use Rattle.pc_grammar.specs.Symbols.{symbols_of}
+use Rattle.pc_syntax.specs.declared.program.Program.{Program}
+use Rattle.pc_syntax.specs.Canonical.{program_pieces}
+use Rattle.pc_syntax.specs.Matched.{AreOf}
+use Rattle.pc_syntax.specs.Pieces.{Piece, bytes_of}
+
+-- the text of the pieces has tokens, and these are the pieces
+pub record AreCut (ps : List Piece) : Type 0 where
+  pub found : List Token
+  pub means : tokens.Means (bytes_of ps) (Ok found)
+  pub are : AreOf (bytes_of ps) ps (symbols_of (bytes_of ps) found)
+
+abbrev pub CanonicalTextsAreCut : Type 0
+CanonicalTextsAreCut = (p : Program) → AreCut (program_pieces p.names p.body)
