@@ -1,4 +1,4 @@
--- A text with the tokens of a program's canonical pieces spells this program, apart from places, and no other.
+-- The canonical text of a program spells this program, apart from places, and no other.
 use Rattle.std.proofs.Common.{◌≡◌, refl, sym, ◌∙◌, ap, subst, List, length, Bool, true, inl, inr, Result, Ok, Err}
 use Rattle.std.specs.List.{list_all}
 use Rattle.pc_text.specs.Bytes.{Bytes}
@@ -21,10 +21,12 @@ use Rattle.pc_syntax.specs.Showable.{is_name, all_differ}
 use Rattle.pc_syntax.specs.Context.{Content, checked, content_of}
 use Rattle.pc_syntax.specs.Spelling.{Spells, HasTree, IsParsed, NoTokens, NoTree, Breaks, Means}
 use Rattle.pc_syntax.specs.Bare.{bare, SamePrograms}
+use Rattle.pc_syntax.specs.ReadsBack.{ShowReadsBack, NothingElseReadsBack}
 use Rattle.pc_syntax.proofs.Results.{and_is}
 use Rattle.pc_syntax.proofs.Readings.{each_text_has_one, each_text_has_no_more}
 use Rattle.pc_syntax.proofs.DerivedPrograms.{IsProgram, Derived, shown_program}
 use Rattle.pc_syntax.proofs.CountedPrograms.{shown_within}
+use Rattle.pc_syntax.proofs.CanonicalTexts.{canonical_texts_are_cut}
 
 -- ---- one parse tree at most
 
@@ -63,7 +65,7 @@ module _ (src : Bytes) (found : List Token) (t : ProgramTree) (h : tokens.Means 
 same_of : (p q : Program) (c : Content) → content_of q ≡ c → c.names ≡ p.names → bare c.body ≡ bare p.body → SamePrograms p q
 same_of p q c e n b = record { names = sym (ap (λ (c : Content). c.names) e ∙ n); body = sym (ap (λ (c : Content). bare c.body) e ∙ b) }
 
-pub read_back : (p : Program) (found : List Token) → tokens.Means (program_text p.names p.body) (Ok found) →
+read_back : (p : Program) (found : List Token) → tokens.Means (program_text p.names p.body) (Ok found) →
     AreOf (program_text p.names p.body) (program_pieces p.names p.body) (symbols_of (program_text p.names p.body) found) → (q : Program) × Spells (program_text p.names p.body) q × SamePrograms p q
 read_back p found h are =
     let src = program_text p.names p.body in
@@ -74,7 +76,13 @@ read_back p found h are =
     (x.0, x.1, same_of p x.0 d.again.content x.2 d.again.named d.again.same)
 
 -- two programs that one text spells have the same content
-pub nothing_else : (p q r : Program) (src : Bytes) → Spells src q → SamePrograms p q → Spells src r → SamePrograms p r
+nothing_else : (p q r : Program) (src : Bytes) → Spells src q → SamePrograms p q → Spells src r → SamePrograms p r
 nothing_else p q r src h s k =
     let e = each_text_has_no_more src (Ok q) (Ok r) h k in
     record { names = s.names ∙ ap (λ (c : Content). c.names) e; body = s.body ∙ ap (λ (c : Content). bare c.body) e }
+
+pub show_reads_back : ShowReadsBack
+show_reads_back p = let cut = canonical_texts_are_cut p in read_back p cut.found cut.means cut.are
+
+pub nothing_else_reads_back : NothingElseReadsBack
+nothing_else_reads_back p r k = let q = show_reads_back p in nothing_else p q.0 r (program_text p.names p.body) q.1 q.2 k
