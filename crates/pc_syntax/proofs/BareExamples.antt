@@ -1,13 +1,11 @@
 -- Statements without their places, worked by hand.
-use Rattle.std.proofs.Common.{◌≡◌, ℕ, ◌+◌, ℤ, pos, ◌-ℤ◌, List, [], ◌∷◌, get_or, Some, sym, ap, ◌∙◌}
+use Rattle.std.proofs.Common.{◌≡◌, ℕ, ◌+◌, ℤ, pos, ◌-ℤ◌, [], ◌∷◌, get_or, Some, sym, ap, ◌∙◌}
 use Rattle.pc_text.specs.declared.place.Place.{Place}
-use Rattle.pc_text.specs.Bytes.{Bytes}
 use Rattle.pc_grammar.specs.declared.tree.Op.TheVariants as op
 use Rattle.pc_grammar.specs.declared.tree.Bound.TheVariants as bound
 use Rattle.pc_syntax.specs.declared.tree.Expr.{Expr, roll-Expr, fold-roll-Expr}
 use Rattle.pc_syntax.specs.declared.tree.Expr.TheOpen as e
 use Rattle.pc_syntax.specs.declared.tree.Expr.TheVariants as is
-use Rattle.pc_syntax.specs.declared.tree.Compare.{Compare}
 use Rattle.pc_syntax.specs.declared.tree.Test.TheVariants as test
 use Rattle.pc_syntax.specs.declared.tree.Stmt.{Stmt, roll-Stmt, fold-roll-Stmt}
 use Rattle.pc_syntax.specs.declared.tree.Stmt.TheOpen as s

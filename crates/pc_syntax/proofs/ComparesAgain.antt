@@ -1,24 +1,21 @@
 -- What the walk makes of the trees of comparisons: the same comparisons apart from places, as many, with as many rows.
-use Rattle.std.proofs.Common.{◌≡◌, ℕ, suc, ◌+◌, refl, sym, ◌∙◌, ap, arith, List, [], ◌∷◌, length, Bool, true, false, cond, Result, Ok, Err}
+use Rattle.std.proofs.Common.{◌≡◌, ℕ, suc, ◌+◌, refl, ◌∙◌, ap, arith, List, [], ◌∷◌, length, Bool, true, false, cond, Result, Ok, Err}
 use Rattle.std.specs.Prelude.{◌&&◌, ◌||◌, not}
 use Rattle.std.specs.List.{list_all}
 use Rattle.pc_text.specs.Bytes.{Bytes}
-use Rattle.pc_rows.specs.Linear.{Linear}
-use Rattle.pc_grammar.specs.declared.tree.Op.{Op}
 use Rattle.pc_grammar.specs.declared.tree.CompareTree.{CompareTree}
 use Rattle.pc_grammar.specs.declared.tree.TestTree.{TestTree}
 use Rattle.pc_grammar.specs.declared.tree.TestTree.TheVariants as tree_test
 use Rattle.pc_syntax.specs.declared.tree.Compare.{Compare}
 use Rattle.pc_syntax.specs.declared.tree.Test.{Test}
 use Rattle.pc_syntax.specs.declared.tree.Test.TheVariants as test
-use Rattle.pc_syntax.specs.declared.normal.AffineFault.TheVariants.{Past}
 use Rattle.pc_syntax.specs.declared.fault.SourceFault.{SourceFault}
 use Rattle.pc_syntax.specs.declared.fault.SourceFault.TheVariants as fault
 use Rattle.pc_syntax.specs.declared.walk.Formed.{Formed}
-use Rattle.pc_syntax.specs.Forms.{bind, form, is_unequal, rows_by, row_fits}
+use Rattle.pc_syntax.specs.Forms.{form, is_unequal, rows_by, row_fits}
 use Rattle.pc_syntax.specs.Sane as sane
 use Rattle.pc_syntax.specs.Context as walk
-use Rattle.pc_syntax.specs.Bare.{nowhere, bare_expr, bare_compare, bare_all, bare_test}
+use Rattle.pc_syntax.specs.Bare.{bare_expr, bare_compare, bare_all, bare_test}
 use Rattle.pc_syntax.proofs.WalkedAgain.{IsExpr}
 
 -- ---- one comparison

@@ -1,6 +1,6 @@
 -- The counts over the symbols of an expression's pieces.
-use Rattle.std.proofs.Common.{◌≡◌, ℕ, ◌+◌, ◌<◌, ◌≤◌, refl, sym, ◌∙◌, ap, arith, List, [], ◌∷◌, ◌++◌, Bool, true, false, not, cond, Some, Result, Ok, Err}
-use Rattle.std.specs.Prelude.{◌&&◌, nat_lt, nat_le}
+use Rattle.std.proofs.Common.{◌≡◌, ℕ, ◌+◌, ◌<◌, ◌≤◌, refl, ◌∙◌, ap, arith, List, [], ◌∷◌, ◌++◌, Bool, true, false, Ok}
+use Rattle.std.specs.Prelude.{nat_lt, nat_le}
 use Rattle.std.specs.List.{list_all}
 use Rattle.std.proofs.lemmas.Bool.Decides.{nat_tests}
 use Rattle.pc_text.specs.Bytes.{Bytes}
@@ -9,9 +9,9 @@ use Rattle.pc_grammar.specs.declared.symbol.Terminal.{Terminal}
 use Rattle.pc_grammar.specs.declared.symbol.Terminal.TheVariants as terminal
 use Rattle.pc_grammar.specs.declared.limits.Counts.{Counts}
 use Rattle.pc_grammar.specs.declared.limits.TheConstants.{SIGNS}
-use Rattle.pc_grammar.specs.Combinators.{Text, starts}
-use Rattle.pc_grammar.specs.Terminals.{the, has}
-use Rattle.pc_grammar.specs.Limits.{counted, counts}
+use Rattle.pc_grammar.specs.Combinators.{Text}
+use Rattle.pc_grammar.specs.Terminals.{has}
+use Rattle.pc_grammar.specs.Limits.{counted}
 use Rattle.pc_syntax.specs.Pieces.{Piece, Blank, LineEnd, Mark, Name, Number}
 use Rattle.pc_syntax.specs.declared.tree.Expr.{Expr}
 use Rattle.pc_syntax.specs.declared.tree.Expr.TheOpen as expr
@@ -23,7 +23,7 @@ use Rattle.pc_syntax.specs.Matched.{AreOf}
 use Rattle.pc_syntax.proofs.Results.{and_is, and_of}
 use Rattle.pc_syntax.proofs.Exprs.{by_cases}
 use Rattle.pc_syntax.proofs.Laid.{expr_laid}
-use Rattle.pc_syntax.proofs.CountedPieces.{Passes, Step, NoChoice, Count, passes_first, count_as}
+use Rattle.pc_syntax.proofs.CountedPieces.{Step, NoChoice, Count, passes_first, count_as}
 
 -- the counts within an expression that has so many signs already
 pub record Within (braces ands signs : ℕ) (c : Counts) : Type 0 where

@@ -1,7 +1,5 @@
 -- The counts over single marks.
-use Rattle.std.proofs.Common.{◌≡◌, ℕ, ◌+◌, ◌-◌, ◌<◌, ◌≤◌, refl, sym, ◌∙◌, ap, arith, List, [], ◌∷◌, Bool, true, false, Result, Ok}
-use Rattle.std.specs.Prelude.{nat_lt}
-use Rattle.std.proofs.lemmas.Bool.Decides.{nat_tests}
+use Rattle.std.proofs.Common.{◌≡◌, ℕ, ◌+◌, ◌-◌, ◌<◌, refl, ap, arith, [], ◌∷◌, true, false, Ok}
 use Rattle.pc_text.specs.Bytes.{Bytes}
 use Rattle.pc_grammar.specs.declared.symbol.Symbol.{Symbol}
 use Rattle.pc_grammar.specs.declared.symbol.Terminal.{Terminal}
@@ -10,8 +8,8 @@ use Rattle.pc_grammar.specs.declared.limits.Counts.{Counts}
 use Rattle.pc_grammar.specs.declared.limits.TheConstants.{BRACES, COMPARISONS}
 use Rattle.pc_grammar.specs.Combinators.{Text}
 use Rattle.pc_grammar.specs.Limits.{counted}
-use Rattle.pc_syntax.specs.Pieces.{Piece, Mark, Name}
-use Rattle.pc_syntax.proofs.CountedPieces.{Step, Anything, Count, count_mark, count_name}
+use Rattle.pc_syntax.specs.Pieces.{Mark, Name}
+use Rattle.pc_syntax.proofs.CountedPieces.{Anything, Count, count_mark, count_name}
 use Rattle.pc_syntax.proofs.CountedExprs.{Within, Here, room}
 
 -- only the open braces are known

@@ -1,5 +1,5 @@
 -- What the limits count over symbols of pieces, wherever they stand.
-use Rattle.std.proofs.Common.{◌≡◌, ℕ, refl, sym, ◌∙◌, ap, List, [], ◌∷◌, ◌++◌, append_assoc, Bool, true, false, Result, Ok, Err}
+use Rattle.std.proofs.Common.{◌≡◌, refl, ◌∙◌, ap, List, [], ◌∷◌, ◌++◌, false, Ok}
 use Rattle.pc_text.specs.Bytes.{Bytes}
 use Rattle.pc_grammar.specs.declared.symbol.Symbol.{Symbol}
 use Rattle.pc_grammar.specs.declared.symbol.Terminal.{Terminal}
@@ -9,9 +9,9 @@ use Rattle.pc_grammar.specs.Combinators.{Text, starts}
 use Rattle.pc_grammar.specs.Terminals.{the, has}
 use Rattle.pc_grammar.specs.Limits.{and_on, counted, counts}
 use Rattle.pc_grammar.proofs.Scans.{counts_append}
-use Rattle.pc_syntax.specs.Pieces.{Piece, Blank, LineEnd, Mark, Name, Number}
+use Rattle.pc_syntax.specs.Pieces.{Piece, Mark, Name}
 use Rattle.pc_syntax.specs.Matched.{AreOf}
-use Rattle.pc_syntax.proofs.PieceParts.{Parts, parts_of}
+use Rattle.pc_syntax.proofs.PieceParts.{parts_of}
 
 -- no symbol of a word is past a limit, and this holds of the counts behind it
 pub record Passes (c : Counts) (u v : Text) (Q : Counts → Type 0) : Type 0 where

@@ -1,6 +1,6 @@
 -- No symbol of a program's pieces is past a limit.
-use Rattle.std.proofs.Common.{◌≡◌, ℕ, ◌+◌, ◌≤◌, refl, arith, List, [], ◌∷◌, ◌++◌, length, take, drop, Bool, true}
-use Rattle.std.specs.Prelude.{◌&&◌, nat_le}
+use Rattle.std.proofs.Common.{◌≡◌, ℕ, ◌+◌, refl, arith, List, [], ◌∷◌, ◌++◌, length, take, drop, true}
+use Rattle.std.specs.Prelude.{nat_le}
 use Rattle.std.specs.List.{list_all}
 use Rattle.pc_text.specs.Bytes.{Bytes}
 use Rattle.pc_text.specs.Named.{Named}
@@ -10,14 +10,14 @@ use Rattle.pc_grammar.specs.declared.limits.TheConstants.{BRACES}
 use Rattle.pc_grammar.specs.Combinators.{Text}
 use Rattle.pc_grammar.specs.Limits as limits
 use Rattle.pc_syntax.specs.declared.tree.Stmt.{Stmt}
-use Rattle.pc_syntax.specs.Pieces.{Piece, Blank, LineEnd, Mark, Name}
+use Rattle.pc_syntax.specs.Pieces.{Blank, LineEnd, Mark, Name}
 use Rattle.pc_syntax.specs.Canonical.{opened, further_names, names_pieces, locals_pieces, stmts_pieces, program_pieces}
 use Rattle.pc_syntax.specs.Matched.{AreOf}
 use Rattle.pc_syntax.specs.Sane.{sane_stmts, is_sane}
 use Rattle.pc_syntax.specs.Showable.{is_name, all_differ, shown_stmts, nesting_of, is_showable}
 use Rattle.pc_syntax.proofs.Results.{and_is}
-use Rattle.pc_syntax.proofs.CountedPieces.{Anything, NoChoice, Count, count_none, count_then, count_as}
-use Rattle.pc_syntax.proofs.CountedExprs.{Within, at_most}
+use Rattle.pc_syntax.proofs.CountedPieces.{Anything, Count, count_none, count_then, count_as}
+use Rattle.pc_syntax.proofs.CountedExprs.{at_most}
 use Rattle.pc_syntax.proofs.CountedMarks.{Braces, Keyword, closed, keyword, name_closed, open_brace, close_brace}
 use Rattle.pc_syntax.proofs.CountedStmts.{opened_counted, semicolon, stmts_counted}
 

@@ -1,6 +1,6 @@
 -- The counts over the symbols of the pieces of statements.
-use Rattle.std.proofs.Common.{◌≡◌, ℕ, ◌+◌, ◌<◌, ◌≤◌, refl, sym, ◌∙◌, ap, arith, List, [], ◌∷◌, ◌++◌, length, map, Bool, true}
-use Rattle.std.specs.Prelude.{◌&&◌, nat_lt, max}
+use Rattle.std.proofs.Common.{◌≡◌, ℕ, ◌+◌, ◌<◌, ◌≤◌, refl, sym, ◌∙◌, arith, List, [], ◌∷◌, ◌++◌, length, map, Bool, true}
+use Rattle.std.specs.Prelude.{◌&&◌}
 use Rattle.std.specs.List.{AllByRecursion, list_all}
 use Rattle.pc_text.specs.Bytes.{Bytes}
 use Rattle.pc_text.specs.declared.place.Place.{Place}
@@ -8,7 +8,6 @@ use Rattle.pc_grammar.specs.declared.symbol.Terminal.{Terminal}
 use Rattle.pc_grammar.specs.declared.symbol.Terminal.TheVariants as terminal
 use Rattle.pc_grammar.specs.declared.limits.Counts.{Counts}
 use Rattle.pc_grammar.specs.declared.limits.TheConstants.{BRACES}
-use Rattle.pc_grammar.specs.Combinators.{Text}
 use Rattle.pc_syntax.specs.declared.tree.Compare.{Compare}
 use Rattle.pc_syntax.specs.declared.tree.Test.{Test}
 use Rattle.pc_syntax.specs.declared.tree.Right.{Right}
@@ -16,9 +15,8 @@ use Rattle.pc_syntax.specs.declared.tree.Stmt.{Stmt, fold-roll-Stmt, roll-Stmt}
 use Rattle.pc_syntax.specs.declared.tree.Stmt.TheOpen as stmt
 use Rattle.pc_syntax.specs.Pieces.{Piece, Blank, LineEnd, Mark, Name}
 use Rattle.pc_syntax.specs.Canonical.{name_at, spaced, opened, all_pieces, test_pieces, right_pieces, block, else_part, tried_pieces, stmt_step, stmt_pieces, stmts_pieces}
-use Rattle.pc_syntax.specs.Matched.{AreOf}
-use Rattle.pc_syntax.specs.Sane.{all_true, sane_each, sane_all, sane_test, sane_right, sane_step, sane_stmt, sane_stmts}
-use Rattle.pc_syntax.specs.Showable.{shown_expr, shown_compare, shown_test, shown_step, shown_stmt, shown_stmts, deepest, nesting_step, nesting, nesting_of}
+use Rattle.pc_syntax.specs.Sane.{sane_each, sane_all, sane_test, sane_step, sane_stmt, sane_stmts}
+use Rattle.pc_syntax.specs.Showable.{shown_compare, shown_test, shown_step, shown_stmt, shown_stmts, nesting_step, nesting, nesting_of}
 use Rattle.pc_syntax.proofs.Results.{and_is}
 use Rattle.pc_syntax.proofs.Stmts.{by_stmt, all_by}
 use Rattle.pc_syntax.proofs.Laid.{stmt_laid}

@@ -1,13 +1,10 @@
 -- The counts over the symbols of the pieces of comparisons, tests and right sides.
-use Rattle.std.proofs.Common.{◌≡◌, ℕ, suc, ◌+◌, ◌-◌, ◌<◌, ◌≤◌, refl, sym, ◌∙◌, ap, arith, pos, negsuc, List, [], ◌∷◌, ◌++◌, length, Bool, true, false, not, Option, Some, None, Result, Ok}
-use Rattle.std.specs.Prelude.{◌&&◌, nat_le}
+use Rattle.std.proofs.Common.{◌≡◌, ℕ, suc, ◌+◌, ◌<◌, ◌≤◌, refl, ap, arith, pos, negsuc, List, [], ◌∷◌, ◌++◌, length, true, false, Option, Some, None}
+use Rattle.std.specs.Prelude.{nat_le}
 use Rattle.std.specs.List.{list_all}
 use Rattle.pc_text.specs.Bytes.{Bytes}
-use Rattle.pc_grammar.specs.declared.symbol.Symbol.{Symbol}
-use Rattle.pc_grammar.specs.declared.symbol.Terminal.{Terminal}
 use Rattle.pc_grammar.specs.declared.symbol.Terminal.TheVariants as terminal
-use Rattle.pc_grammar.specs.declared.limits.Counts.{Counts}
-use Rattle.pc_grammar.specs.declared.limits.TheConstants.{SIGNS, COMPARISONS}
+use Rattle.pc_grammar.specs.declared.limits.TheConstants.{COMPARISONS}
 use Rattle.pc_grammar.specs.declared.tree.Op.{Op}
 use Rattle.pc_grammar.specs.declared.tree.Op.TheVariants as op
 use Rattle.pc_grammar.specs.declared.tree.Bound.{Bound}
@@ -23,11 +20,11 @@ use Rattle.pc_syntax.specs.declared.showing.level.Level.TheVariants as level
 use Rattle.pc_syntax.specs.Pieces.{Piece, Blank, Mark, Number}
 use Rattle.pc_syntax.specs.Canonical.{spaced, sign_of, expr_pieces, compare_pieces, further_pieces, all_pieces, test_pieces, bound_pieces, choice_pieces, right_pieces}
 use Rattle.pc_syntax.specs.Matched.{AreOf}
-use Rattle.pc_syntax.specs.Sane.{sane_each, sane_all, sane_test}
-use Rattle.pc_syntax.specs.Showable.{signs_in, shown_expr, shown_compare, shown_test}
+use Rattle.pc_syntax.specs.Sane.{sane_all, sane_test}
+use Rattle.pc_syntax.specs.Showable.{shown_expr, shown_compare, shown_test}
 use Rattle.pc_syntax.proofs.Results.{and_is}
-use Rattle.pc_syntax.proofs.CountedPieces.{Step, Anything, NoChoice, Count, count_none, count_both, count_then, count_mark, count_as, next_mark}
-use Rattle.pc_syntax.proofs.CountedExprs.{Within, Here, here, at_most, is_of_expr, pieces_counted, expr_counted}
+use Rattle.pc_syntax.proofs.CountedPieces.{Anything, NoChoice, Count, count_none, count_both, count_then, count_mark, count_as, next_mark}
+use Rattle.pc_syntax.proofs.CountedExprs.{Within, Here, here, at_most, pieces_counted, expr_counted}
 use Rattle.pc_syntax.proofs.CountedMarks.{Braces, Resets, reset, one_and, any_test}
 
 -- ---- comparisons
@@ -113,7 +110,7 @@ module _ (src : Bytes) (names : List Bytes) (b : ℕ) where
       let high = count_both src (Within b n 0) (Here b n) (Here b n) NoChoice Anything (bound_pieces hi) (Mark terminal.CloseBracket ∷ []) (λ w v i f. next_mark src terminal.CloseBracket refl [] w v i) (bound_counted n hi) shut in
       let comma = count_then src (Here b n) (Within b n 0) (Here b n) Anything (Mark terminal.Comma ∷ Blank 1 ∷ []) (bound_pieces hi ++ Mark terminal.CloseBracket ∷ []) (reset src b n terminal.Comma (λ c s r e. rw e refl)) high in
       let low = count_both src (Within b n 0) (Here b n) (Here b n) NoChoice Anything (bound_pieces lo) (Mark terminal.Comma ∷ Blank 1 ∷ bound_pieces hi ++ Mark terminal.CloseBracket ∷ [])
-          (λ w v i f. next_mark src terminal.Comma refl (Blank 1 ∷ bound_pieces hi ++ Mark terminal.CloseBracket ∷ []) w v i) (bound_counted n lo) comma in
+      (λ w v i f. next_mark src terminal.Comma refl (Blank 1 ∷ bound_pieces hi ++ Mark terminal.CloseBracket ∷ []) w v i) (bound_counted n lo) comma in
       count_then src (Here b n) (Within b n 0) (Here b n) Anything (Mark terminal.OpenBracket ∷ []) (bound_pieces lo ++ (Mark terminal.Comma ∷ Blank 1 ∷ bound_pieces hi ++ Mark terminal.CloseBracket ∷ []))
       (reset src b n terminal.OpenBracket (λ c s r e. rw e refl)) low
 

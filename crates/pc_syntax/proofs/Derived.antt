@@ -9,10 +9,10 @@ use Rattle.pc_grammar.specs.Terminals.{has, is_one, is_one_of}
 use Rattle.pc_grammar.specs.Expressions.{inner}
 use Rattle.pc_grammar.specs.Statements.{optional, is_after}
 use Rattle.pc_grammar.proofs.Combinators.{append-nil}
-use Rattle.pc_syntax.specs.Pieces.{Piece, Blank, LineEnd, Mark, Name, Number}
+use Rattle.pc_syntax.specs.Pieces.{Piece, LineEnd, Mark, Name, Number}
 use Rattle.pc_syntax.specs.Matched.{AreOf}
 use Rattle.pc_syntax.specs.Context.{word}
-use Rattle.pc_syntax.proofs.PieceParts.{Parts, parts_of}
+use Rattle.pc_syntax.proofs.PieceParts.{parts_of}
 
 -- a tree of the symbols, of which a claim holds
 pub record Tree {A : Type 0} (L : Lang A) (Q : A → Type 0) (u : Text) : Type 0 where

@@ -1,5 +1,5 @@
 -- The symbols of an expression's pieces derive a tree, of which the walk makes the expression again.
-use Rattle.std.proofs.Common.{◌≡◌, ℕ, ◌+◌, ◌<◌, ◌≤◌, refl, sym, ◌∙◌, ap, arith, subst, ℤ, negsuc, List, [], ◌∷◌, ◌++◌, length, Bool, true, false, Option, Some, None, Result, Ok, Err}
+use Rattle.std.proofs.Common.{◌≡◌, ℕ, ◌+◌, ◌<◌, refl, sym, ◌∙◌, ap, arith, subst, ℤ, negsuc, List, [], ◌∷◌, ◌++◌, length, Bool, true, Option, Some, None, Result, Ok}
 use Rattle.std.specs.Prelude.{◌&&◌, nat_lt}
 use Rattle.std.proofs.lemmas.Bool.Decides.{nat_tests}
 use Rattle.std.proofs.lemmas.Option.{slice_get-get_or}
@@ -15,14 +15,14 @@ use Rattle.pc_grammar.specs.declared.tree.ExprTree.TheVariants as tree
 use Rattle.pc_grammar.specs.Combinators.{Text, Lang, is_map, is_either, is_maybe}
 use Rattle.pc_grammar.specs.Terminals.{has, is_one}
 use Rattle.pc_grammar.specs.Expressions as grammar
-use Rattle.pc_syntax.specs.declared.tree.Expr.{Expr, fold-Expr, fold-roll-Expr, roll-Expr}
+use Rattle.pc_syntax.specs.declared.tree.Expr.{Expr, fold-roll-Expr, roll-Expr}
 use Rattle.pc_syntax.specs.declared.tree.Expr.TheVariants as e
 use Rattle.pc_syntax.specs.declared.tree.Expr.TheOpen as expr
 use Rattle.pc_syntax.specs.declared.normal.AffineFault.{AffineFault}
 use Rattle.pc_syntax.specs.declared.normal.AffineFault.TheVariants.{Past}
 use Rattle.pc_syntax.specs.declared.showing.level.Level.{Level}
 use Rattle.pc_syntax.specs.declared.showing.level.Level.TheVariants as level
-use Rattle.pc_syntax.specs.Pieces.{Piece, Blank, Mark, Name, Number}
+use Rattle.pc_syntax.specs.Pieces.{Piece, Mark, Name, Number}
 use Rattle.pc_syntax.specs.Canonical.{name_at, spaced, joined, wraps_sum, wraps_product, wrapped, expr_pieces}
 use Rattle.pc_syntax.specs.Matched.{AreOf}
 use Rattle.pc_syntax.specs.Forms.{bind, variable, product, form_step, form_of}
@@ -32,10 +32,10 @@ use Rattle.pc_syntax.specs.Bare.{nowhere, bare_expr_step, bare_expr}
 use Rattle.pc_syntax.proofs.Results.{and_is}
 use Rattle.pc_syntax.proofs.Exprs.{by_cases}
 use Rattle.pc_syntax.proofs.Laid.{expr_laid}
-use Rattle.pc_syntax.proofs.PieceParts.{Parts, parts_of}
-use Rattle.pc_syntax.proofs.Derived.{Tree, Derive, Derivable, Given, derive_map, derive_both, derive_left, derive_right, derive_one, derive_name, derive_number, derive_some}
+use Rattle.pc_syntax.proofs.PieceParts.{parts_of}
+use Rattle.pc_syntax.proofs.Derived.{Derive, Derivable, Given, derive_map, derive_both, derive_left, derive_right, derive_one, derive_name, derive_number, derive_some}
 use Rattle.pc_syntax.proofs.DerivedLevels.{at_level, longer_product, longer_sum, sum_at, product_at, negation_at, atom_at}
-use Rattle.pc_syntax.proofs.WalkedAgain.{Bound, bound, IsExpr, number_again, name_again, neg_again, add_again, sub_again, mul_again}
+use Rattle.pc_syntax.proofs.WalkedAgain.{bound, IsExpr, number_again, name_again, neg_again, add_again, sub_again, mul_again}
 
 -- the symbol of a sign, and the symbols of what stands behind it
 record Behind (src : Bytes) (t : Terminal) (ps : List Piece) (u : Text) : Type 0 where

@@ -1,33 +1,29 @@
 -- The symbols of a program's pieces derive a tree, of which the walk makes the program again.
-use Rattle.std.proofs.Common.{◌≡◌, ℕ, ◌+◌, ◌≤◌, refl, sym, ◌∙◌, ap, arith, List, [], ◌∷◌, ◌++◌, length, length-append, length-take-le, take-append-drop, map, sum, take, drop, Bool, true, Result, Ok, Err}
-use Rattle.std.specs.Prelude.{◌&&◌, nat_le}
-use Rattle.std.specs.List.{list_all}
+use Rattle.std.proofs.Common.{◌≡◌, ℕ, ◌≤◌, refl, sym, ◌∙◌, ap, arith, List, [], ◌∷◌, ◌++◌, length, length-append, length-take-le, take-append-drop, map, sum, take, drop, true, Ok}
+use Rattle.std.specs.Prelude.{nat_le}
 use Rattle.std.proofs.lemmas.Bool.Decides.{nat_tests}
 use Rattle.std.proofs.lemmas.List.{length-map}
 use Rattle.pc_text.specs.Bytes.{Bytes}
-use Rattle.pc_text.specs.declared.place.Place.{Place}
 use Rattle.pc_text.specs.Named.{Named}
 use Rattle.pc_rows.specs.declared.row.TheConstants.{VARIABLES}
-use Rattle.pc_grammar.specs.declared.symbol.Symbol.{Symbol}
 use Rattle.pc_grammar.specs.declared.symbol.Terminal.TheVariants as terminal
-use Rattle.pc_grammar.specs.declared.tree.StmtTree.{StmtTree}
 use Rattle.pc_grammar.specs.declared.tree.ProgramTree.{ProgramTree}
 use Rattle.pc_grammar.specs.Combinators.{Text, is_map, is_both, is_maybe}
 use Rattle.pc_grammar.specs.Terminals.{is_one}
-use Rattle.pc_grammar.specs.Statements.{is_enclosed, is_stmts}
+use Rattle.pc_grammar.specs.Statements.{is_stmts}
 use Rattle.pc_grammar.specs.Programs as grammar
 use Rattle.pc_syntax.specs.declared.limits.TheConstants.{EDGES}
 use Rattle.pc_syntax.specs.declared.tree.Stmt.{Stmt}
 use Rattle.pc_syntax.specs.Pieces.{Piece, Blank, LineEnd, Mark}
-use Rattle.pc_syntax.specs.Canonical.{opened, names_pieces, locals_pieces, stmts_pieces, program_pieces}
+use Rattle.pc_syntax.specs.Canonical.{names_pieces, locals_pieces, stmts_pieces, program_pieces}
 use Rattle.pc_syntax.specs.Matched.{AreOf}
 use Rattle.pc_syntax.specs.Sane.{sane_stmts, edges, edges_of, is_sane}
 use Rattle.pc_syntax.specs.Showable.{all_differ}
-use Rattle.pc_syntax.specs.Context.{Content, word, checked_names, checked_stmts, checked}
+use Rattle.pc_syntax.specs.Context.{Content, word, checked_names, checked}
 use Rattle.pc_syntax.specs.Bare.{bare}
 use Rattle.pc_syntax.proofs.Results.{and_is}
-use Rattle.pc_syntax.proofs.Derived.{Derive, Derivable, derive_map, derive_both, derive_one, derive_between}
-use Rattle.pc_syntax.proofs.StmtsAgain.{AreStmts, WalkedAll}
+use Rattle.pc_syntax.proofs.Derived.{Derive, derive_map, derive_both, derive_one, derive_between}
+use Rattle.pc_syntax.proofs.StmtsAgain.{AreStmts}
 use Rattle.pc_syntax.proofs.DerivedStmts.{shown_stmts}
 use Rattle.pc_syntax.proofs.NamesAgain.{AreNames, all_distinct, differ_parts, declared_again, params_derive, locals_derive}
 
@@ -81,11 +77,11 @@ module _ (src : Bytes) (names : Named) (body : List Stmt) where
   program_derives n d =
       let behind = derive_both src (is_stmts n) (is_one terminal.CloseBrace) (AreStmts src names.names (bare body) (sum (map edges body))) _ (stmts_pieces names.names body 2) (Mark terminal.CloseBrace ∷ LineEnd ∷ []) d (derive_one src terminal.CloseBrace refl) in
       let inside = derive_both src grammar.is_locals (is_both (is_stmts n) (is_one terminal.CloseBrace)) (AreNames src (drop names.params names.names)) _ vs (stmts_pieces names.names body 2 ++ Mark terminal.CloseBrace ∷ LineEnd ∷ [])
-          (locals_derive src (drop names.params names.names)) behind in
+      (locals_derive src (drop names.params names.names)) behind in
       let braces = derive_both src (is_one terminal.OpenBrace) (is_both grammar.is_locals (is_both (is_stmts n) (is_one terminal.CloseBrace))) _ _ (Blank 1 ∷ Mark terminal.OpenBrace ∷ LineEnd ∷ [])
-          (vs ++ (stmts_pieces names.names body 2 ++ Mark terminal.CloseBrace ∷ LineEnd ∷ [])) (derive_one src terminal.OpenBrace refl) inside in
+      (vs ++ (stmts_pieces names.names body 2 ++ Mark terminal.CloseBrace ∷ LineEnd ∷ [])) (derive_one src terminal.OpenBrace refl) inside in
       let params = derive_between src terminal.OpenParen terminal.CloseParen (is_map grammar.given (is_maybe grammar.is_names)) _ _ (AreNames src (take names.params names.names)) (Mark terminal.OpenParen ∷ []) us (Mark terminal.CloseParen ∷ [])
-          (derive_one src terminal.OpenParen refl) (params_derive src (take names.params names.names)) (derive_one src terminal.CloseParen refl) in
+      (derive_one src terminal.OpenParen refl) (params_derive src (take names.params names.names)) (derive_one src terminal.CloseParen refl) in
       derive_map src grammar.program_of (is_both (is_one terminal.Entry) (is_both grammar.is_params (is_both (is_one terminal.OpenBrace) (is_both grammar.is_locals (is_both (is_stmts n) (is_one terminal.CloseBrace)))))) _ (Parts src names body) (program_pieces names body)
       (λ x h. record { params = h.1.0; locals = h.1.1.1.0; stmts = h.1.1.1.1.0 })
       (derive_both src (is_one terminal.Entry) (is_both grammar.is_params (is_both (is_one terminal.OpenBrace) (is_both grammar.is_locals (is_both (is_stmts n) (is_one terminal.CloseBrace))))) _ _ (Mark terminal.Entry ∷ Blank 1 ∷ [])

@@ -1,5 +1,5 @@
 -- The symbols of the pieces of a right side derive a tree, of which the walk makes it again.
-use Rattle.std.proofs.Common.{◌≡◌, ℕ, ◌+◌, ◌≤◌, suc, refl, sym, ◌∙◌, ap, arith, ℤ, pos, negsuc, List, [], ◌∷◌, ◌++◌, length, Bool, true, false, cond, Option, Some, None, Result, Ok, Err}
+use Rattle.std.proofs.Common.{◌≡◌, ℕ, suc, refl, ap, arith, ℤ, pos, negsuc, List, [], ◌∷◌, ◌++◌, length, true, false, Option, Some, None, Ok}
 use Rattle.std.specs.Prelude.{◌&&◌, int_lt, int_le}
 use Rattle.std.proofs.lemmas.Int.{ints}
 use Rattle.pc_text.specs.Bytes.{Bytes}
@@ -17,18 +17,16 @@ use Rattle.pc_grammar.specs.Terminals.{is_one}
 use Rattle.pc_grammar.specs.Expressions.{is_expr_in, is_paren}
 use Rattle.pc_grammar.specs.Rights as grammar
 use Rattle.pc_syntax.specs.declared.tree.Right.{Right}
-use Rattle.pc_syntax.specs.declared.fault.SourceFault.{SourceFault}
-use Rattle.pc_syntax.specs.declared.fault.SourceFault.TheVariants as fault
 use Rattle.pc_syntax.specs.declared.showing.level.Level.TheVariants as level
-use Rattle.pc_syntax.specs.Pieces.{Piece, Blank, Mark, Number}
+use Rattle.pc_syntax.specs.Pieces.{Blank, Mark, Number}
 use Rattle.pc_syntax.specs.Canonical.{spaced, expr_pieces, bound_pieces, choice_pieces, right_pieces}
 use Rattle.pc_syntax.specs.Machine.{end_of}
 use Rattle.pc_syntax.specs.Forms.{form}
 use Rattle.pc_syntax.specs.Sane.{sane_expr, in_order, sane_choice, sane_right}
 use Rattle.pc_syntax.specs.Context.{checked_choice, checked_right}
-use Rattle.pc_syntax.specs.Bare.{nowhere, bare_expr, bare_choice, bare_right}
+use Rattle.pc_syntax.specs.Bare.{bare_expr, bare_right}
 use Rattle.pc_syntax.proofs.Results.{and_is}
-use Rattle.pc_syntax.proofs.Derived.{Derive, Derivable, Both, Given, derive_as, derive_map, derive_both, derive_right, derive_one, derive_number, derive_none, derive_some}
+use Rattle.pc_syntax.proofs.Derived.{Derive, Derivable, Given, derive_map, derive_both, derive_right, derive_one, derive_number, derive_none, derive_some}
 use Rattle.pc_syntax.proofs.WalkedAgain.{IsExpr}
 use Rattle.pc_syntax.proofs.DerivedTests.{sane_shown}
 
@@ -67,9 +65,9 @@ module _ (src : Bytes) where
   choice_derives c =
       let high = derive_both src grammar.is_bound (is_one terminal.CloseBracket) _ _ (bound_pieces c.hi) (Mark terminal.CloseBracket ∷ []) (bound_derives c.hi) (derive_one src terminal.CloseBracket refl) in
       let comma = derive_both src (is_one terminal.Comma) (is_both grammar.is_bound (is_one terminal.CloseBracket)) _ _ (Mark terminal.Comma ∷ Blank 1 ∷ []) (bound_pieces c.hi ++ Mark terminal.CloseBracket ∷ [])
-          (derive_one src terminal.Comma refl) high in
+      (derive_one src terminal.Comma refl) high in
       let low = derive_both src grammar.is_bound (is_both (is_one terminal.Comma) (is_both grammar.is_bound (is_one terminal.CloseBracket))) _ _
-          (bound_pieces c.lo) (Mark terminal.Comma ∷ Blank 1 ∷ bound_pieces c.hi ++ Mark terminal.CloseBracket ∷ []) (bound_derives c.lo) comma in
+      (bound_pieces c.lo) (Mark terminal.Comma ∷ Blank 1 ∷ bound_pieces c.hi ++ Mark terminal.CloseBracket ∷ []) (bound_derives c.lo) comma in
       derive_map src grammar.choice_of (is_both (is_one terminal.OpenBracket) (is_both grammar.is_bound (is_both (is_one terminal.Comma) (is_both grammar.is_bound (is_one terminal.CloseBracket))))) _ (HasEnds c)
       (Mark terminal.OpenBracket ∷ bound_pieces c.lo ++ (Mark terminal.Comma ∷ Blank 1 ∷ bound_pieces c.hi ++ Mark terminal.CloseBracket ∷ []))
       (λ x h. (h.1.0, h.1.1.1.0))

@@ -1,12 +1,10 @@
 -- The symbols of the pieces of comparisons, conjunctions and tests derive trees, of which the walk makes them again.
-use Rattle.std.proofs.Common.{◌≡◌, ℕ, ◌+◌, ◌≤◌, refl, sym, ◌∙◌, ap, arith, subst, List, [], ◌∷◌, ◌++◌, length, Bool, true, false, Result, Ok, Err}
+use Rattle.std.proofs.Common.{◌≡◌, ℕ, ◌+◌, refl, ◌∙◌, ap, arith, List, [], ◌∷◌, ◌++◌, length, Bool, true, false}
 use Rattle.std.specs.Prelude.{◌&&◌, ◌||◌, not, nat_le}
 use Rattle.std.specs.List.{list_all}
 use Rattle.pc_text.specs.Bytes.{Bytes}
 use Rattle.pc_text.specs.Named.{AreDistinct}
-use Rattle.pc_rows.specs.Linear.{Linear}
 use Rattle.pc_grammar.specs.declared.symbol.Symbol.{Symbol}
-use Rattle.pc_grammar.specs.declared.symbol.Terminal.{Terminal}
 use Rattle.pc_grammar.specs.declared.symbol.Terminal.TheVariants as terminal
 use Rattle.pc_grammar.specs.declared.tree.Op.{Op}
 use Rattle.pc_grammar.specs.declared.tree.Op.TheVariants as op
@@ -14,7 +12,7 @@ use Rattle.pc_grammar.specs.declared.tree.ExprTree.{ExprTree}
 use Rattle.pc_grammar.specs.declared.tree.CompareTree.{CompareTree}
 use Rattle.pc_grammar.specs.declared.tree.TestTree.{TestTree}
 use Rattle.pc_grammar.specs.declared.limits.TheConstants.{COMPARISONS}
-use Rattle.pc_grammar.specs.Combinators.{Text, Lang, is_map, is_both, is_many}
+use Rattle.pc_grammar.specs.Combinators.{Lang, is_map, is_both, is_many}
 use Rattle.pc_grammar.specs.Terminals.{has, is_one, is_one_of}
 use Rattle.pc_grammar.specs.Expressions.{is_expr_in, is_paren}
 use Rattle.pc_grammar.specs.Statements as grammar
@@ -25,14 +23,12 @@ use Rattle.pc_syntax.specs.declared.tree.Test.TheVariants as test
 use Rattle.pc_syntax.specs.declared.showing.level.Level.TheVariants as level
 use Rattle.pc_syntax.specs.Pieces.{Piece, Mark}
 use Rattle.pc_syntax.specs.Canonical.{spaced, sign_of, expr_pieces, compare_pieces, further_pieces, all_pieces, test_pieces}
-use Rattle.pc_syntax.specs.Forms.{form, form_of, is_affine, is_unequal, rows_of, row_fits}
-use Rattle.pc_syntax.specs.Sane.{names_below, sane_expr, sane_compare, sane_each, sane_all, sane_test}
-use Rattle.pc_syntax.specs.Bare.{bare_expr}
+use Rattle.pc_syntax.specs.Forms.{form, is_affine, is_unequal, rows_of, row_fits}
+use Rattle.pc_syntax.specs.Sane.{names_below, sane_expr, sane_compare, sane_each, sane_test}
 use Rattle.pc_syntax.proofs.Results.{and_is, and_of}
 use Rattle.pc_syntax.proofs.FormLemmas.{forms_are_right}
 use Rattle.pc_syntax.proofs.WalkedTests.{may_stand}
-use Rattle.pc_syntax.proofs.Derived.{Tree, Derive, Derivable, Both, Front, derive_as, derive_map, derive_both, derive_left, derive_right, derive_one, derive_one_of, derive_nil, derive_cons}
-use Rattle.pc_syntax.proofs.WalkedAgain.{IsExpr}
+use Rattle.pc_syntax.proofs.Derived.{Derive, Derivable, Both, Front, derive_as, derive_map, derive_both, derive_left, derive_right, derive_one, derive_one_of, derive_nil, derive_cons}
 use Rattle.pc_syntax.proofs.DerivedExprs.{Shown, shown_expr}
 use Rattle.pc_syntax.proofs.ComparesAgain.{IsCompare, AreCompares, IsTest, compare_again, none_again, more_again, any_again, one_again, several_again}
 
@@ -77,9 +73,11 @@ module _ (src : Bytes) (names : List Bytes) (distinct : AreDistinct names) where
       let q = and_is (sane_expr (length names) c.left) (sane_expr (length names) c.right && list_all row_fits (rows_of c)) p.1 in
       let r = and_is (sane_expr (length names) c.right) (list_all row_fits (rows_of c)) q.1 in
       let x = sane_shown c.left q.0 in
-      let y = sane_shown c.right r.0 in
-      (x.0 + y.0, λ n i. compare_derives (is_paren n) (expr_pieces names c.left level.Expression) (expr_pieces names c.right level.Expression) c.op _ _ _
-      (λ s t u o j k. compare_again src names alone c (grammar.compare_of (t, (s, u))) p.0 r.1 o j k) (x.1 n (omega arith)) (y.1 n (omega arith)))
+      let y = sane_shown c.right r.0 in (
+        x.0 + y.0,
+        λ n i. compare_derives (is_paren n) (expr_pieces names c.left level.Expression) (expr_pieces names c.right level.Expression) c.op _ _ _
+            (λ s t u o j k. compare_again src names alone c (grammar.compare_of (t, (s, u))) p.0 r.1 o j k) (x.1 n (omega arith)) (y.1 n (omega arith)),
+      )
 
   -- ---- conjunctions
 
@@ -140,8 +138,11 @@ module _ (src : Bytes) (names : List Bytes) (distinct : AreDistinct names) where
   test_derives n ps Q R f d = derive_right src (is_map grammar.any (is_one terminal.Star)) (is_map grammar.holds (grammar.is_all (is_paren n))) R ps (derive_map src grammar.holds (grammar.is_all (is_paren n)) Q R ps f d)
 
   pub shown_test : (t : Test) → sane_test (length names) t ≡ true → Derivable src (test_pieces names t) (λ n. grammar.is_test (is_paren n)) (IsTest src names t)
-  shown_test test.Any h = (0, λ n i. derive_left src (is_map grammar.any (is_one terminal.Star)) (is_map grammar.holds (grammar.is_all (is_paren n))) (IsTest src names test.Any) (Mark terminal.Star ∷ [])
-      (derive_map src grammar.any (is_one terminal.Star) _ (IsTest src names test.Any) (Mark terminal.Star ∷ []) (λ s k. any_again src names) (derive_one src terminal.Star refl)))
+  shown_test test.Any h = (
+    0,
+    λ n i. derive_left src (is_map grammar.any (is_one terminal.Star)) (is_map grammar.holds (grammar.is_all (is_paren n))) (IsTest src names test.Any) (Mark terminal.Star ∷ [])
+        (derive_map src grammar.any (is_one terminal.Star) _ (IsTest src names test.Any) (Mark terminal.Star ∷ []) (λ s k. any_again src names) (derive_one src terminal.Star refl)),
+  )
   shown_test (test.All []) h = absurd (cc)
   shown_test (test.All (c ∷ [])) h =
       let x = shown_all true c [] (and_of (sane_compare (length names) c) true h refl) in

@@ -1,6 +1,6 @@
 -- The symbols of the pieces of names derive them, and the walk declares them again.
-use Rattle.std.proofs.Common.{◌≡◌, ℕ, suc, ◌+◌, ◌<◌, ◌≤◌, refl, sym, ◌∙◌, ap, subst, arith, List, [], ◌∷◌, ◌++◌, append_assoc, length, length-append, map, Bool, true, false, Option, Some, None, Result, Ok, Err}
-use Rattle.std.specs.Prelude.{◌&&◌, not, is_some, nat_lt}
+use Rattle.std.proofs.Common.{◌≡◌, ℕ, ◌+◌, ◌<◌, ◌≤◌, refl, sym, ◌∙◌, ap, subst, arith, List, [], ◌∷◌, ◌++◌, append_assoc, length, length-append, map, true, Option, Some, None, Ok}
+use Rattle.std.specs.Prelude.{not, is_some, nat_lt}
 use Rattle.std.proofs.lemmas.Bool.Decides.{nat_tests}
 use Rattle.pc_text.specs.Bytes.{Bytes}
 use Rattle.pc_text.specs.Named.{number_of, AreDistinct}
@@ -13,12 +13,12 @@ use Rattle.pc_grammar.specs.Terminals.{is_one}
 use Rattle.pc_grammar.specs.Statements.{seconds, all_items}
 use Rattle.pc_grammar.specs.Programs as grammar
 use Rattle.pc_grammar.proofs.Combinators.{append-nil}
-use Rattle.pc_syntax.specs.Pieces.{Piece, Blank, LineEnd, Mark, Name}
+use Rattle.pc_syntax.specs.Pieces.{Blank, LineEnd, Mark, Name}
 use Rattle.pc_syntax.specs.Canonical.{further_names, names_pieces, locals_pieces}
 use Rattle.pc_syntax.specs.Context.{word, declared_after}
 use Rattle.pc_syntax.specs.Showable.{differ_after, all_differ}
 use Rattle.pc_syntax.proofs.Results.{and_is}
-use Rattle.pc_syntax.proofs.Derived.{Derive, Both, Front, Given, derive_as, derive_map, derive_both, derive_one, derive_name, derive_none, derive_some, derive_nil, derive_cons}
+use Rattle.pc_syntax.proofs.Derived.{Derive, Front, Given, derive_as, derive_map, derive_both, derive_one, derive_name, derive_none, derive_some, derive_nil, derive_cons}
 
 -- ---- names that differ
 

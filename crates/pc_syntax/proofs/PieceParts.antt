@@ -2,7 +2,6 @@
 use Rattle.std.proofs.Common.{◌≡◌, refl, ap, List, [], ◌∷◌, ◌++◌}
 use Rattle.pc_text.specs.Bytes.{Bytes}
 use Rattle.pc_grammar.specs.Combinators.{Text}
-use Rattle.pc_grammar.specs.declared.symbol.Symbol.{Symbol}
 use Rattle.pc_syntax.specs.Pieces.{Piece, Blank, LineEnd, Mark, Name, Number}
 use Rattle.pc_syntax.specs.Matched.{AreOf}
 

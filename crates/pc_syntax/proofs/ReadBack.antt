@@ -1,5 +1,5 @@
 -- The canonical text of a program spells this program, apart from places, and no other.
-use Rattle.std.proofs.Common.{◌≡◌, refl, sym, ◌∙◌, ap, subst, List, length, Bool, true, inl, inr, Result, Ok, Err}
+use Rattle.std.proofs.Common.{◌≡◌, sym, ◌∙◌, ap, subst, List, length, inl, inr, Result, Ok, Err}
 use Rattle.std.specs.List.{list_all}
 use Rattle.pc_text.specs.Bytes.{Bytes}
 use Rattle.pc_text.specs.Places.{place_of}
@@ -9,7 +9,6 @@ use Rattle.pc_text.specs.declared.token.Token.{Token}
 use Rattle.pc_text.specs.declared.token.LexFault.{LexFault}
 use Rattle.pc_text.proofs.LexOnly as lex_only
 use Rattle.pc_grammar.specs.Symbols.{symbols_of}
-use Rattle.pc_grammar.specs.Parsing as grammar
 use Rattle.pc_grammar.specs.declared.tree.ProgramTree.{ProgramTree}
 use Rattle.pc_grammar.specs.declared.fault.ParseFault.{ParseFault}
 use Rattle.pc_grammar.proofs.Unique as unique
@@ -19,12 +18,12 @@ use Rattle.pc_syntax.specs.Canonical.{program_pieces, program_text}
 use Rattle.pc_syntax.specs.Matched.{AreOf}
 use Rattle.pc_syntax.specs.Showable.{is_name, all_differ}
 use Rattle.pc_syntax.specs.Context.{Content, checked, content_of}
-use Rattle.pc_syntax.specs.Spelling.{Spells, HasTree, IsParsed, NoTokens, NoTree, Breaks, Means}
+use Rattle.pc_syntax.specs.Spelling.{Spells, HasTree, IsParsed, Means}
 use Rattle.pc_syntax.specs.Bare.{bare, SamePrograms}
 use Rattle.pc_syntax.specs.ReadsBack.{ShowReadsBack, NothingElseReadsBack}
 use Rattle.pc_syntax.proofs.Results.{and_is}
 use Rattle.pc_syntax.proofs.Readings.{each_text_has_one, each_text_has_no_more}
-use Rattle.pc_syntax.proofs.DerivedPrograms.{IsProgram, Derived, shown_program}
+use Rattle.pc_syntax.proofs.DerivedPrograms.{shown_program}
 use Rattle.pc_syntax.proofs.CountedPrograms.{shown_within}
 use Rattle.pc_syntax.proofs.CanonicalTexts.{canonical_texts_are_cut}
 

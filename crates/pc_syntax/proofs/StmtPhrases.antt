@@ -1,11 +1,7 @@
 -- The symbols of the pieces of a statement derive its tree, given that those of its parts do.
-use Rattle.std.proofs.Common.{◌≡◌, ℕ, zero, suc, ◌+◌, ◌<◌, ◌≤◌, refl, sym, ◌∙◌, ap, arith, List, [], ◌∷◌, ◌++◌, length, map, sum, Bool, true}
-use Rattle.std.specs.Prelude.{◌&&◌, nat_lt}
-use Rattle.std.specs.List.{AllByRecursion}
-use Rattle.std.proofs.lemmas.List.Sums.{sum-map, sum_by-cons}
+use Rattle.std.proofs.Common.{◌≡◌, ℕ, refl, List, [], ◌∷◌, ◌++◌, true}
 use Rattle.pc_text.specs.Bytes.{Bytes}
 use Rattle.pc_text.specs.declared.place.Place.{Place}
-use Rattle.pc_text.specs.Named.{number_of, AreDistinct}
 use Rattle.pc_grammar.specs.declared.symbol.Symbol.{Symbol}
 use Rattle.pc_grammar.specs.declared.symbol.Terminal.{Terminal}
 use Rattle.pc_grammar.specs.declared.symbol.Terminal.TheVariants as terminal
@@ -15,31 +11,14 @@ use Rattle.pc_grammar.specs.declared.tree.TestTree.{TestTree}
 use Rattle.pc_grammar.specs.declared.tree.RightTree.{RightTree}
 use Rattle.pc_grammar.specs.declared.tree.StmtTree.{StmtTree}
 use Rattle.pc_grammar.specs.declared.tree.StmtTree.TheVariants as tree
-use Rattle.pc_grammar.specs.Combinators.{Text, Lang, is_map, is_both, is_either, is_many}
+use Rattle.pc_grammar.specs.Combinators.{Lang, is_map, is_both, is_either}
 use Rattle.pc_grammar.specs.Terminals.{has, is_one}
-use Rattle.pc_grammar.specs.Expressions.{is_paren}
 use Rattle.pc_grammar.specs.Rights.{is_right}
 use Rattle.pc_grammar.specs.Statements as grammar
-use Rattle.pc_syntax.specs.declared.tree.Compare.{Compare}
-use Rattle.pc_syntax.specs.declared.tree.Test.{Test}
-use Rattle.pc_syntax.specs.declared.tree.Right.{Right}
-use Rattle.pc_syntax.specs.declared.tree.Stmt.{Stmt, fold-roll-Stmt, roll-Stmt}
-use Rattle.pc_syntax.specs.declared.tree.Stmt.TheOpen as stmt
-use Rattle.pc_syntax.specs.declared.tree.Stmt.TheVariants as s
 use Rattle.pc_syntax.specs.Pieces.{Piece, Blank, LineEnd, Mark, Name}
-use Rattle.pc_syntax.specs.Canonical.{name_at, spaced, opened, all_pieces, test_pieces, right_pieces, block, else_part, tried_pieces, stmt_pieces, stmts_pieces}
+use Rattle.pc_syntax.specs.Canonical.{spaced, opened}
 use Rattle.pc_syntax.specs.Context.{word}
-use Rattle.pc_syntax.specs.Sane.{sane_each, sane_all, sane_test, sane_right, sane_step, sane_stmt, sane_stmts, edges_step, edges, test_edges}
-use Rattle.pc_syntax.specs.Bare.{nowhere, bare_test, bare_all, bare_right, bare_stmt_step, bare_stmt, bare}
-use Rattle.pc_syntax.proofs.Results.{and_is}
-use Rattle.pc_syntax.proofs.Stmts.{by_stmt, all_by}
-use Rattle.pc_syntax.proofs.Laid.{stmt_laid}
-use Rattle.pc_syntax.proofs.Derived.{Derive, Derivable, Both, Front, derive_as, derive_map, derive_both, derive_left, derive_right, derive_one, derive_name, derive_nil, derive_cons, derive_between, derive_missing, derive_after, derive_ended}
-use Rattle.pc_syntax.proofs.DerivedExprs.{numbered, below}
-use Rattle.pc_syntax.proofs.ComparesAgain.{AreCompares, IsTest, none_again}
-use Rattle.pc_syntax.proofs.DerivedTests.{shown_conjunction, shown_test}
-use Rattle.pc_syntax.proofs.DerivedRights.{IsRight, shown_right}
-use Rattle.pc_syntax.proofs.StmtsAgain.{IsStmt, AreStmts, nothing_again, then_again, set_again, assert_again, assume_again, if_again, while_again}
+use Rattle.pc_syntax.proofs.Derived.{Derive, derive_map, derive_both, derive_left, derive_right, derive_one, derive_name, derive_between, derive_ended}
 
 module _ (src : Bytes) (P : Lang ExprTree) where
   pub set_derives : (m : ℕ) (w : Bytes) (ps : List Piece) (X : RightTree → Type 0) (Q : StmtTree → Type 0) → ((name : Symbol) (r : RightTree) → word src name ≡ w → X r → Q (tree.Set name r)) →

@@ -1,5 +1,5 @@
 -- What the walk makes of the trees of statements: the same statements apart from places, with as many edges.
-use Rattle.std.proofs.Common.{◌≡◌, ℕ, suc, ◌+◌, ◌≤◌, refl, sym, ◌∙◌, ap, arith, List, [], ◌∷◌, length, map, sum, Bool, true, false, Some, Result, Ok, Err}
+use Rattle.std.proofs.Common.{◌≡◌, ℕ, ◌+◌, ◌≤◌, refl, sym, ◌∙◌, ap, arith, List, [], ◌∷◌, false, Some, Ok}
 use Rattle.std.specs.Prelude.{nat_lt}
 use Rattle.std.proofs.lemmas.Bool.Decides.{nat_tests}
 use Rattle.pc_text.specs.Bytes.{Bytes}
@@ -18,9 +18,6 @@ use Rattle.pc_syntax.specs.declared.tree.Test.{Test}
 use Rattle.pc_syntax.specs.declared.tree.Right.{Right}
 use Rattle.pc_syntax.specs.declared.tree.Stmt.{Stmt}
 use Rattle.pc_syntax.specs.declared.tree.Stmt.TheVariants as s
-use Rattle.pc_syntax.specs.declared.walk.Counted.{Counted}
-use Rattle.pc_syntax.specs.declared.walk.CountedList.{CountedList}
-use Rattle.pc_syntax.specs.Forms.{bind}
 use Rattle.pc_syntax.specs.Sane as sane
 use Rattle.pc_syntax.specs.Context as walk
 use Rattle.pc_syntax.specs.Bare.{nowhere, bare_test, bare_all, bare_right, bare_stmt_step, bare_stmt, bare}

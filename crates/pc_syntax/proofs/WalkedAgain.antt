@@ -1,16 +1,15 @@
 -- What the walk makes of the parts of an expression, it makes of the whole: the same expression apart from places, with the same form.
-use Rattle.std.proofs.Common.{◌≡◌, ℕ, ◌<◌, refl, sym, ◌∙◌, ap, ℤ, negsuc, List, Bool, true, false, cond, Option, Some, None, Result, Ok, Err}
+use Rattle.std.proofs.Common.{◌≡◌, ℕ, refl, sym, ◌∙◌, ap, ℤ, negsuc, List, Bool, true, false, cond, Some, Result, Ok, Err}
 use Rattle.pc_text.specs.Bytes.{Bytes}
 use Rattle.pc_text.specs.declared.place.Place.{Place}
 use Rattle.pc_text.specs.Named.{number_of}
 use Rattle.pc_rows.specs.Linear.{Linear, sum_of, scaled_by, difference_of, of_constant, is_number, is_in_range, fits}
 use Rattle.pc_grammar.specs.declared.symbol.Symbol.{Symbol}
-use Rattle.pc_grammar.specs.declared.tree.ExprTree.{ExprTree, ExprTree-F, fold-ExprTree, fold-roll-ExprTree}
+use Rattle.pc_grammar.specs.declared.tree.ExprTree.{ExprTree, fold-roll-ExprTree}
 use Rattle.pc_grammar.specs.declared.tree.ExprTree.TheOpen as tree_open
 use Rattle.pc_grammar.specs.declared.tree.ExprTree.TheVariants as tree
 use Rattle.pc_syntax.specs.declared.tree.Expr.{Expr}
 use Rattle.pc_syntax.specs.declared.tree.Expr.TheVariants as e
-use Rattle.pc_syntax.specs.declared.tree.Expr.TheOpen as expr
 use Rattle.pc_syntax.specs.declared.normal.AffineFault.{AffineFault}
 use Rattle.pc_syntax.specs.declared.normal.AffineFault.TheVariants.{NotAffine, Past}
 use Rattle.pc_syntax.specs.declared.fault.SourceFault.{SourceFault}

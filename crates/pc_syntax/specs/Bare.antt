@@ -1,5 +1,5 @@
 -- Programs without their places: each place is made one and the same.
-use Rattle.std.specs.Prelude.{◌≡◌, ℕ, List, map, Option, Some, None}
+use Rattle.std.specs.Prelude.{◌≡◌, List, map, Option, Some, None}
 use Rattle.pc_text.specs.declared.place.Place.{Place}
 use Rattle.pc_grammar.specs.declared.tree.Choice.{Choice}
 use Rattle.pc_syntax.specs.declared.tree.Expr.{Expr, Expr-F, fold-Expr}
