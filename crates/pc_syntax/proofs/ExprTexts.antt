@@ -1,5 +1,5 @@
 -- The text of an expression, a push at a time.
-use Rattle.std.proofs.Common.{◌≡◌, ℕ, refl, ap, sym, ◌∙◌, List, [], ◌∷◌, ◌++◌, append_assoc, Bool, true, false, cond, Some, append-nil}
+use Rattle.std.proofs.Common.{◌≡◌, ℕ, refl, ap, sym, ◌∙◌, List, [], ◌∷◌, ◌++◌, append_assoc, Bool, true, false, cond, Some, append-nil, ◌⊎◌, inl, inr}
 use Rattle.std.specs.Prelude.{slice_get}
 use Rattle.std.proofs.lemmas.Option.{get_or_from_slice_get}
 use Rattle.std.proofs.lemmas.Grind.{flat_map-append}
@@ -12,7 +12,8 @@ use Rattle.pc_syntax.specs.declared.tree.Expr.TheVariants as e
 use Rattle.pc_syntax.specs.declared.showing.level.Level.{Level}
 use Rattle.pc_syntax.specs.declared.showing.level.Level.TheVariants as level
 use Rattle.pc_syntax.specs.Pieces.{Piece, Mark, Name, bytes_of, spelled}
-use Rattle.pc_syntax.specs.Canonical.{wraps_sum, wraps_product, wraps_negation, wrapped, joined, spaced, expr_pieces}
+use Rattle.pc_syntax.specs.Canonical.{wraps_sum, wraps_product, wraps_negation, wrapped, joined, spaced, sum_sign_step, sum_sign, expr_pieces}
+use Rattle.pc_syntax.proofs.Folds.{fold-add, fold-sub}
 use Rattle.pc_syntax.proofs.Laid.{name_laid, neg_laid, add_laid, sub_laid, mul_laid}
 
 abbrev before : Bool → Bytes
@@ -36,37 +37,41 @@ joined_done : (w : Bool) (ps qs : List Piece) (k : Terminal) (t0 t1 t2 t3 t4 t5 
 joined_done w ps qs k t0 t1 t2 t3 t4 t5 a b d f g =
     wrapped_done w (joined ps k qs) (bytes_of ps ++ (bytes_of (spaced k) ++ bytes_of qs)) t0 t1 t4 t5 a (rw (f, d, b) (simp append_assoc)) (sym (joined_text ps qs k)) g
 
+add_sign : (a b : Expr) (p : Place) → sum_sign (e.Add a b p) ≡ terminal.Plus
+add_sign a b p = fold-add Terminal sum_sign_step a b p
+
+sub_sign : (a b : Expr) (p : Place) → sum_sign (e.Sub a b p) ≡ terminal.Minus
+sub_sign a b p = fold-sub Terminal sum_sign_step a b p
+
 module _ (names : List Bytes) (x : Expr) (l : Level) where
   pub name_done : (v : ℕ) (w t0 t1 : Bytes) → x ≡ e.Name v → slice_get names v ≡ Some w → t1 ≡ t0 ++ w → t1 ≡ t0 ++ bytes_of (expr_pieces names x l)
   name_done v w t0 t1 is at h =
       let name = get_or_from_slice_get names v w [] at in
       h ∙ ap (λ z. t0 ++ z) (sym (append-nil w) ∙ ap (λ (z : Bytes). bytes_of (Name z ∷ [])) (sym name) ∙ ap bytes_of (sym (name_laid names v l)) ∙ ap (λ z. bytes_of (expr_pieces names z l)) (sym is))
 
-  module _ (w : Bool) (a a' : Expr) (p : Place) (same : a' ≡ a) (t0 t1 t2 t3 : Bytes) where
-    pub neg_done : (t4 : Bytes) → x ≡ e.Neg a p → w ≡ wraps_negation l →
+  module _ (w : Bool) (a a' : Expr) (same : a' ≡ a) (t0 t1 t2 t3 : Bytes) where
+    pub neg_done : (p : Place) (t4 : Bytes) → x ≡ e.Neg a p → w ≡ wraps_negation l →
         t1 ≡ t0 ++ before w → t2 ≡ t1 ++ (45 ∷ []) → t3 ≡ t2 ++ bytes_of (expr_pieces names a' level.Atom) → t4 ≡ t3 ++ behind w → t4 ≡ t0 ++ bytes_of (expr_pieces names x l)
-    neg_done t4 is wraps g h i j =
+    neg_done p t4 is wraps g h i j =
         let laid : expr_pieces names x l ≡ wrapped w (Mark terminal.Minus ∷ expr_pieces names a' level.Atom) = rw (is, same, wraps) (neg_laid names a p l) in
         rw laid (wrapped_done w (Mark terminal.Minus ∷ expr_pieces names a' level.Atom) ((45 ∷ []) ++ bytes_of (expr_pieces names a' level.Atom)) t0 t1 t3 t4 g (rw (i, h) (simp append_assoc)) refl j)
 
     module _ (t4 t5 : Bytes) (b b' : Expr) (alike : b' ≡ b) where
-      pub add_done : x ≡ e.Add a b p → w ≡ wraps_sum l →
-          t1 ≡ t0 ++ before w → t2 ≡ t1 ++ bytes_of (expr_pieces names a' level.Expression) → t3 ≡ t2 ++ (32 ∷ 43 ∷ 32 ∷ []) →
+      pub sum_done : (((q : Place) × (x ≡ e.Add a b q)) ⊎ ((q : Place) × (x ≡ e.Sub a b q))) → w ≡ wraps_sum l →
+          t1 ≡ t0 ++ before w → t2 ≡ t1 ++ bytes_of (expr_pieces names a' level.Expression) → t3 ≡ t2 ++ bytes_of (spaced (sum_sign x)) →
           t4 ≡ t3 ++ bytes_of (expr_pieces names b' level.Addend) → t5 ≡ t4 ++ behind w → t5 ≡ t0 ++ bytes_of (expr_pieces names x l)
-      add_done is wraps g h i j k =
-          let laid : expr_pieces names x l ≡ wrapped w (joined (expr_pieces names a' level.Expression) terminal.Plus (expr_pieces names b' level.Addend)) = rw (is, same, alike, wraps) (add_laid names a b p l) in
-          rw laid (joined_done w (expr_pieces names a' level.Expression) (expr_pieces names b' level.Addend) terminal.Plus t0 t1 t2 t3 t4 t5 g h i j k)
+      sum_done is wraps g h i j k =
+          let laid : expr_pieces names x l ≡ wrapped w (joined (expr_pieces names a' level.Expression) (sum_sign x) (expr_pieces names b' level.Addend)) = by is in
+          rw laid (joined_done w (expr_pieces names a' level.Expression) (expr_pieces names b' level.Addend) (sum_sign x) t0 t1 t2 t3 t4 t5 g h i j k)
+        where
+          by : (((q : Place) × (x ≡ e.Add a b q)) ⊎ ((q : Place) × (x ≡ e.Sub a b q))) →
+              expr_pieces names x l ≡ wrapped w (joined (expr_pieces names a' level.Expression) (sum_sign x) (expr_pieces names b' level.Addend))
+          by (inl (q, is)) = rw (is, same, alike, wraps, add_sign a b q) (add_laid names a b q l)
+          by (inr (q, is)) = rw (is, same, alike, wraps, sub_sign a b q) (sub_laid names a b q l)
 
-      pub sub_done : x ≡ e.Sub a b p → w ≡ wraps_sum l →
-          t1 ≡ t0 ++ before w → t2 ≡ t1 ++ bytes_of (expr_pieces names a' level.Expression) → t3 ≡ t2 ++ (32 ∷ 45 ∷ 32 ∷ []) →
-          t4 ≡ t3 ++ bytes_of (expr_pieces names b' level.Addend) → t5 ≡ t4 ++ behind w → t5 ≡ t0 ++ bytes_of (expr_pieces names x l)
-      sub_done is wraps g h i j k =
-          let laid : expr_pieces names x l ≡ wrapped w (joined (expr_pieces names a' level.Expression) terminal.Minus (expr_pieces names b' level.Addend)) = rw (is, same, alike, wraps) (sub_laid names a b p l) in
-          rw laid (joined_done w (expr_pieces names a' level.Expression) (expr_pieces names b' level.Addend) terminal.Minus t0 t1 t2 t3 t4 t5 g h i j k)
-
-      pub mul_done : x ≡ e.Mul a b p → w ≡ wraps_product l →
+      pub mul_done : (p : Place) → x ≡ e.Mul a b p → w ≡ wraps_product l →
           t1 ≡ t0 ++ before w → t2 ≡ t1 ++ bytes_of (expr_pieces names a' level.Addend) → t3 ≡ t2 ++ (32 ∷ 42 ∷ 32 ∷ []) →
           t4 ≡ t3 ++ bytes_of (expr_pieces names b' level.Factor) → t5 ≡ t4 ++ behind w → t5 ≡ t0 ++ bytes_of (expr_pieces names x l)
-      mul_done is wraps g h i j k =
+      mul_done p is wraps g h i j k =
           let laid : expr_pieces names x l ≡ wrapped w (joined (expr_pieces names a' level.Addend) terminal.Star (expr_pieces names b' level.Factor)) = rw (is, same, alike, wraps) (mul_laid names a b p l) in
           rw laid (joined_done w (expr_pieces names a' level.Addend) (expr_pieces names b' level.Factor) terminal.Star t0 t1 t2 t3 t4 t5 g h i j k)

@@ -70,6 +70,14 @@ module _ (names : List Bytes) where
   abbrev pub expr_pieces : Expr → Level → List Piece
   expr_pieces e = fold-Expr (Level → List Piece) expr_step e
 
+abbrev pub sum_sign_step : Expr-F Terminal → Terminal
+sum_sign_step (expr.Sub a b p) = terminal.Minus
+sum_sign_step _ = terminal.Plus
+
+-- the sign of a sum or of a difference
+abbrev pub sum_sign : Expr → Terminal
+sum_sign e = fold-Expr Terminal sum_sign_step e
+
 -- ---- comparisons, conjunctions and tests
 
 abbrev pub sign_of : Op → Terminal

@@ -17,3 +17,5 @@ pub mod Spelling
 pub mod Walks
 pub mod Matched
 pub mod CutTexts
+pub mod Bare
+pub mod ReadsBack

@@ -4,6 +4,7 @@
 ghost use Rattle.pc_syntax.specs.Laws.{FormsAreRight, ComparisonsAreRows, ConjunctionsAreRows, UnequalsAreRows};
 ghost use Rattle.pc_syntax.specs.Kept.{WalksAreSane};
 ghost use Rattle.pc_syntax.specs.CutTexts.{CanonicalTextsAreCut};
+ghost use Rattle.pc_syntax.specs.ReadsBack.{ShowReadsBack, NothingElseReadsBack};
 ghost use Rattle.pc_syntax.specs.Spelling.{EachTextHasOne, EachTextHasNoMore};
 
 /// A normal form has the value of its expression at every state, and is in range.
@@ -32,4 +33,10 @@ pub fn texts_have_one_answer()
 /// The canonical text of a program has the tokens of its pieces.
 pub fn canonical_texts_are_cut()
     ensures { CanonicalTextsAreCut }
+{}
+
+/// The canonical text of a program spells the program, apart from places, and no other.
+pub fn show_reads_back()
+    ensures spelled { ShowReadsBack }
+    ensures only { NothingElseReadsBack }
 {}

@@ -17,7 +17,10 @@ mod tree;
 mod walk;
 
 pub use fault::SourceFault;
-pub use laws::{canonical_texts_are_cut, forms_are_right, rows_are_right, texts_have_one_answer, walks_are_sane};
+pub use laws::{
+    canonical_texts_are_cut, forms_are_right, rows_are_right, show_reads_back,
+    texts_have_one_answer, walks_are_sane,
+};
 pub use limits::EDGES;
 pub use loops::first_loop;
 pub use normal::{AffineFault, affine};

@@ -10,6 +10,8 @@ mod level;
 mod names;
 mod rights;
 mod stmts;
+#[cfg(test)]
+mod tests;
 
 use crate::program::Program;
 use crate::showing::names::push_names;

@@ -4,7 +4,6 @@ ghost use Rattle.std.specs.Prelude.{◌<◌, ◌-◌, ◌^◌, length};
 
 use crate::fault::SourceFault;
 use crate::reading::read;
-use crate::showing::show;
 use pc_text::Place;
 use std::alloc::Global;
 use std::test::Fail;
@@ -82,24 +81,4 @@ fn each_context_rule_is_tested(rt: HostRuntime) {
     assert!(rt; has_fault(alloc, faulty, SourceFault::FormPast(at(1, 23))));
     let kept = b"entry (x) { assert (x < 170141183460469231731687303715884105727); }";
     assert!(rt; matches!(read(alloc, kept), Ok(_)));
-}
-
-#[test]
-fn a_program_is_shown_in_its_canonical_text(rt: HostRuntime) -> Result<(), Fail> {
-    let alloc = rt.alloc();
-    let src =
-        b"entry(x,y){var z;z=x- (y - 1)+[0,2];if(*){}else{assert(z<2&&x==-y);}}";
-    let program = read(alloc, src)?;
-    let text = show(alloc, &program)?;
-    let wanted = b"entry (x, y) {
-  var z;
-  z = x - (y - 1) + [0, 2];
-  if (*) {
-  } else {
-    assert (z < 2 && x == -y);
-  }
-}
-";
-    assert_eq!(rt; text.bytes(), wanted.as_slice());
-    Ok(())
 }

@@ -53,6 +53,16 @@ fn close(text: &mut Text, wraps: bool) -> Result<(), NoMemory>
     if wraps { text.push_all(b")") } else { Ok(()) }
 }
 
+/// Appends the sign of a sum or of a difference, with a space on each side.
+fn push_sign(text: &mut Text, e: &Expr) -> Result<(), NoMemory>
+    ensures { OnOk result (text.new ≡ text.old ++ bytes_of (spec.spaced (spec.sum_sign e.now))) }
+{
+    match e {
+        Expr::Sub(..) => text.push_all(b" - "),
+        _ => text.push_all(b" + "),
+    }
+}
+
 /// Appends an expression where one of this level stands.
 pub fn push_expr(text: &mut Text, names: &Names, e: &Expr, level: Level) -> Result<(), NoMemory>
     requires { names_below (length names.now.names) e.now ≡ true }
@@ -68,19 +78,11 @@ pub fn push_expr(text: &mut Text, names: &Names, e: &Expr, level: Level) -> Resu
             push_expr(text, names, a.get(), Level::Atom)?;
             close(text, wraps)
         }
-        Expr::Add(a, b, _) => {
+        Expr::Add(a, b, _) | Expr::Sub(a, b, _) => {
             let wraps = wraps_sum(level);
             open(text, wraps)?;
             push_expr(text, names, a.get(), Level::Expression)?;
-            text.push_all(b" + ")?;
-            push_expr(text, names, b.get(), Level::Addend)?;
-            close(text, wraps)
-        }
-        Expr::Sub(a, b, _) => {
-            let wraps = wraps_sum(level);
-            open(text, wraps)?;
-            push_expr(text, names, a.get(), Level::Expression)?;
-            text.push_all(b" - ")?;
+            push_sign(text, e)?;
             push_expr(text, names, b.get(), Level::Addend)?;
             close(text, wraps)
         }

@@ -69,14 +69,12 @@ fn push_tried(text: &mut Text, names: &Names, tried: &[Compare]) -> Result<(), N
     requires { named_all (length names.now.names) tried.now ≡ true }
     ensures { OnOk result (text.new ≡ text.old ++ bytes_of (spec.tried_pieces names.now.names tried.now)) }
 {
-    match tried {
-        [] => Ok(()),
-        _ => {
-            text.push_all(b" try (")?;
-            push_all(text, names, tried)?;
-            text.push_all(b")")
-        }
+    if tried.is_empty() {
+        return Ok(());
     }
+    text.push_all(b" try (")?;
+    push_all(text, names, tried)?;
+    text.push_all(b")")
 }
 
 /// Appends the target of an assignment and its sign.
