@@ -14,7 +14,6 @@ mod row;
 mod showing;
 #[cfg(test)]
 mod tests;
-mod stub;
 mod words;
 
 pub use alternatives::{condition, push_rows, text_determines_condition};
@@ -23,5 +22,4 @@ pub use fault::CertFault;
 pub use lengths::texts_are_short;
 pub use reading::read_certificate;
 pub use row::push_row;
-pub use stub::show_condition;
 pub use showing::show_certificate;
