@@ -10,6 +10,7 @@
 #![tactic(auto)]
 
 mod bound;
+mod contradiction;
 mod decision;
 mod made;
 mod pairs;

@@ -5,7 +5,7 @@ ghost use Rattle.std.specs.List.{AllByRecursion};
 ghost use Rattle.pc_rows.specs.Linear.{sum_of, scaled_by, is_zero};
 ghost use Rattle.pc_elim.specs.declared.made.TheConstants.{LIMIT};
 ghost use Rattle.pc_elim.specs.Elimination.{combine, weigh, factor, is_positive, flat, with_each, kept_of, combined_of, eliminated, place_of, places_below};
-ghost use Rattle.pc_elim.specs.Fits.{RowFits, WeighFits, CombineFits, PairFits, AllPairsFit, EliminationFits, Adds, PlacesAdded, RoomIs, SettleIs};
+ghost use Rattle.pc_elim.specs.Fits.{RowFits, WeighFits, CombineFits, PairFits, AllPairsFit, EliminationFits, Adds, PlacesAdded, CountIs, SettleIs};
 
 use crate::made::{Fault, LIMIT, Made, PARTS, is_positive};
 use pc_rows::{Number, Past, Row, VARIABLES, products, sums};
@@ -22,13 +22,26 @@ pub fn eliminated(alloc: Global, k: u32, rows: &[Made]) -> Result<Items<Made>, F
     ensures most { IfOk result (λ made. length made ≤ LIMIT) }
 {
     let below = places_below(alloc, k, rows)?;
-    let mut out = with_room(
-        alloc,
-        free_count(k, rows) + above_count(k, rows) * below.len(),
-    )?;
+    let count = made_count(k, rows, below.len())?;
+    let mut out = with_room(alloc, count)?;
     keep(k, rows, &mut out)?;
     combine_each(k, rows, below.as_slice(), &mut out)?;
     Ok(out)
+}
+
+/// How many rows the elimination makes, where so many rows have the variable with a negative
+/// coefficient. `Full` exactly where it would make more than `LIMIT`.
+pub fn made_count(k: u32, rows: &[Made], below: usize) -> Result<usize, Fault>
+    requires variable { k < VARIABLES }
+    requires most { length rows.now ≤ LIMIT }
+    requires places { below ≡ length (places_below k 0 rows.now) }
+    ensures { CountIs k rows.now result }
+{
+    let count = free_count(k, rows) + above_count(k, rows) * below;
+    if LIMIT < count {
+        return Err(Fault::Full);
+    }
+    Ok(count)
 }
 
 /// How many rows do not have the variable.
@@ -48,7 +61,7 @@ fn above_count(k: u32, rows: &[Made]) -> usize
 }
 
 /// The places of the rows that have the variable with a negative coefficient.
-fn places_below(alloc: Global, k: u32, rows: &[Made]) -> Result<Items<usize>, Fault>
+pub fn places_below(alloc: Global, k: u32, rows: &[Made]) -> Result<Items<usize>, Fault>
     requires { k < VARIABLES }
     ensures { SettleIs (places_below k 0 rows.now) (Unit {0}) result }
 {
@@ -75,11 +88,8 @@ fn note(k: u32, i: usize, r: &Made, places: &mut Items<usize>) -> Result<(), Fau
 /// No rows, with room for `count`: the room is taken at once, so that no list is copied as it
 /// grows.
 fn with_room(alloc: Global, count: usize) -> Result<Items<Made>, Fault>
-    ensures { RoomIs count result }
+    ensures { SettleIs [] (Unit {0}) result }
 {
-    if LIMIT < count {
-        return Err(Fault::Full);
-    }
     match Vec::with_capacity(alloc, count) {
         Ok(rows) => Ok(Items::from_vec(rows)),
         Err(_) => Err(Fault::NoMemory),
@@ -177,7 +187,8 @@ fn add(out: &mut Items<Made>, made: Made) -> Result<(), Fault>
     }
 }
 
-fn combined(k: u32, p: &Made, n: &Made) -> Result<Made, Past>
+/// The combination of the rows in which the variable is gone.
+pub fn combined(k: u32, p: &Made, n: &Made) -> Result<Made, Past>
     requires { k < VARIABLES }
     ensures { OkIff result (CombineFits k p.now n.now) (combine k p.now n.now) }
 {
