@@ -1,5 +1,5 @@
 -- The rows with a negative factor, by their places: how many rows are made, and which.
-use Rattle.std.proofs.Common.{◌≡◌, ℕ, zero, suc, ◌+◌, ◌*◌, ◌^◌, ◌<◌, ◌≤◌, neg_ℤ, refl, sym, subst, ◌∙◌, ap, arith, List, [], ◌∷◌, ◌++◌, Bool, true, false, cond, length, length-append, drop, get_or, append_assoc, Ok, Err}
+use Rattle.std.proofs.Common.{◌≡◌, ℕ, zero, suc, ◌+◌, ◌*◌, ◌^◌, ◌<◌, ◌≤◌, refl, sym, subst, ◌∙◌, ap, arith, List, [], ◌∷◌, ◌++◌, Bool, true, false, cond, length, length-append, drop, get_or, append_assoc, Ok, Err}
 use Rattle.std.specs.Prelude.{count_by}
 use Rattle.std.specs.List.{AllByRecursion}
 use Rattle.std.proofs.lemmas.List.{drop_more, drop_all, get_or_default, append-nil}
@@ -7,7 +7,7 @@ use Rattle.pc_rows.proofs.Joining.{each_join}
 use Rattle.pc_elim.specs.declared.made.Fault.{Fault}
 use Rattle.pc_elim.specs.declared.made.Fault.TheVariants.{Past, Full, NoMemory}
 use Rattle.pc_elim.specs.declared.made.TheConstants.{LIMIT}
-use Rattle.pc_elim.specs.Elimination.{Made, is_positive, factor, combine, flat, pair_of, with_each, kept_of, combined_of, eliminated, place_of, places_below, combined_at}
+use Rattle.pc_elim.specs.Elimination.{Made, combine, flat, pair_of, with_each, kept_of, combined_of, eliminated, place_of, places_below, combined_at}
 use Rattle.pc_elim.specs.Fits.{CombineFits, PairFits, EliminationFits, Adds, CountIs, SettleIs}
 use Rattle.pc_elim.proofs.Adding.{all_at}
 use Rattle.pc_elim.proofs.Counting.{one_if, is_free, is_over, is_under, count_more, length-eliminated, eliminated_room}

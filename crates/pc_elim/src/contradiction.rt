@@ -12,7 +12,8 @@ ghost use Rattle.pc_elim.specs.Settling.{contradiction_of};
 ghost use Rattle.pc_elim.specs.Fits.{ConstantFits, CombineFits, PairFits, AllPairsFit, EliminationFits, SettleIs};
 
 use crate::made::{Fault, LIMIT, Made, PARTS, is_positive};
-use crate::pairs::{combined, made_count, places_below};
+use crate::pairs::combined;
+use crate::places::{made_count, places_below};
 use pc_rows::{Number, Past, VARIABLES};
 use std::alloc::Global;
 

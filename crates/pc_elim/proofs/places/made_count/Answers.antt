@@ -1,6 +1,6 @@
 use Rattle.std.proofs.Common.{arith}
 use Rattle.pc_elim.proofs.Pairing.{count_is, count_small}
-use Rattle.pc_elim.proofs.pairs.made_count.Goals as goal
+use Rattle.pc_elim.proofs.places.made_count.Goals as goal
 
 pub overflow_mul-count : goal.overflow_mul-count
 overflow_mul-count c =
