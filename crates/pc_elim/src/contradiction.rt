@@ -1,7 +1,8 @@
 //! The first contradiction among rows without variables.
 //!
-//! The last variable is not eliminated row by row: of a combination without variables only the
-//! constant is computed, and its multipliers where it is a contradiction.
+//! Where numbers are small the last variable is not eliminated row by row: of a combination without
+//! variables only the constant is computed, and its multipliers where it is a contradiction. No
+//! number leaves the range there, so that the answer is the same.
 
 ghost use Rattle.std.specs.Prelude.{◌≡◌, ◌<◌, ◌≤◌, Some, ◌+ℤ◌, ◌*ℤ◌, ℕ, neg_ℤ, OkIff, [], ◌∷◌, length};
 ghost use Rattle.std.specs.List.{AllByRecursion};
@@ -12,8 +13,9 @@ ghost use Rattle.pc_elim.specs.Settling.{contradiction_of};
 ghost use Rattle.pc_elim.specs.Fits.{ConstantFits, CombineFits, PairFits, AllPairsFit, EliminationFits, SettleIs};
 
 use crate::made::{Fault, LIMIT, Made, PARTS, is_positive};
-use crate::pairs::combined;
+use crate::pairs::{combined, eliminated};
 use crate::places::{made_count, places_below};
+use crate::small::are_small;
 use pc_rows::{Number, Past, VARIABLES};
 use std::alloc::Global;
 
@@ -40,6 +42,10 @@ pub fn last_contradiction(
     requires most { length rows.now ≤ LIMIT }
     ensures { SettleIs (contradiction_of (eliminated k rows.now)) (EliminationFits k rows.now) result }
 {
+    if !are_small(rows) {
+        let made = eliminated(alloc, k, rows)?;
+        return Ok(contradiction(made.as_slice()));
+    }
     let below = places_below(alloc, k, rows)?;
     let _count = made_count(k, rows, below.len())?;
     match kept(k, rows) {

@@ -17,6 +17,7 @@ mod made;
 mod pairs;
 mod places;
 mod settle;
+mod small;
 
 pub use decision::{Answer, decide};
 pub use made::LIMIT;
