@@ -7,7 +7,7 @@ use Rattle.pc_elim.specs.declared.made.Fault.TheVariants.{Past, Full, NoMemory}
 use Rattle.pc_elim.specs.Elimination.{Made, flat}
 use Rattle.pc_elim.specs.Fits.{Adds}
 
-flat_next : (f : Made → List Made) (xs : List Made) (i : ℕ) (x : Made) → i < length xs → x ≡ get_or xs i x → flat f (drop i xs) ≡ f x ++ flat f (drop (i + 1) xs)
+pub flat_next : (f : Made → List Made) (xs : List Made) (i : ℕ) (x : Made) → i < length xs → x ≡ get_or xs i x → flat f (drop i xs) ≡ f x ++ flat f (drop (i + 1) xs)
 flat_next f xs i x lt e = ap (flat f) (drop_more xs i x lt) ∙ ap (λ (z : Made). f z ++ flat f (drop (i + 1) xs)) (sym e)
 
 pub all_at : (F : Made → Type 0) (xs : List Made) (i : ℕ) (x : Made) → i < length xs → x ≡ get_or xs i x → AllByRecursion F xs → F x

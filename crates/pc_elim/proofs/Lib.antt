@@ -13,6 +13,7 @@ pub mod Starting
 pub mod Settlement
 pub mod Adding
 pub mod Pairing
+pub mod Contradicting
 pub mod Proving
 pub mod Totals
 pub mod Deciding

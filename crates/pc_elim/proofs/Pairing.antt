@@ -1,5 +1,5 @@
 -- The rows with a negative factor, by their places: how many rows are made, and which.
-use Rattle.std.proofs.Common.{◌≡◌, ℕ, zero, suc, ◌+◌, ◌*◌, ◌^◌, ◌<◌, ◌≤◌, neg_ℤ, refl, sym, subst, ◌∙◌, ap, arith, List, [], ◌∷◌, ◌++◌, Bool, true, false, cond, length, length-append, drop, get_or, append_assoc, Ok, Err}
+use Rattle.std.proofs.Common.{◌≡◌, ℕ, zero, suc, ◌+◌, ◌*◌, ◌^◌, ◌<◌, ◌≤◌, refl, sym, subst, ◌∙◌, ap, arith, List, [], ◌∷◌, ◌++◌, Bool, true, false, cond, length, length-append, drop, get_or, append_assoc, Ok, Err}
 use Rattle.std.specs.Prelude.{count_by}
 use Rattle.std.specs.List.{AllByRecursion}
 use Rattle.std.proofs.lemmas.List.{drop_more, drop_all, get_or_default, append-nil}
@@ -7,8 +7,8 @@ use Rattle.pc_rows.proofs.Joining.{each_join}
 use Rattle.pc_elim.specs.declared.made.Fault.{Fault}
 use Rattle.pc_elim.specs.declared.made.Fault.TheVariants.{Past, Full, NoMemory}
 use Rattle.pc_elim.specs.declared.made.TheConstants.{LIMIT}
-use Rattle.pc_elim.specs.Elimination.{Made, is_positive, factor, combine, flat, pair_of, with_each, kept_of, combined_of, eliminated, place_of, places_below, combined_at}
-use Rattle.pc_elim.specs.Fits.{CombineFits, PairFits, EliminationFits, Adds, RoomIs, SettleIs}
+use Rattle.pc_elim.specs.Elimination.{Made, combine, flat, pair_of, with_each, kept_of, combined_of, eliminated, place_of, places_below, combined_at}
+use Rattle.pc_elim.specs.Fits.{CombineFits, PairFits, EliminationFits, Adds, CountIs, SettleIs}
 use Rattle.pc_elim.proofs.Adding.{all_at}
 use Rattle.pc_elim.proofs.Counting.{one_if, is_free, is_over, is_under, count_more, length-eliminated, eliminated_room}
 
@@ -27,30 +27,35 @@ length-places k i (r ∷ rs) =
     one true = refl
     one false = refl
 
-module _ (k : ℕ) (rows : List Made) (free over under : ℕ) (below : List ℕ) (most : length rows ≤ LIMIT)
-    (free_is : free ≡ count_by (is_free k) rows) (over_is : over ≡ count_by (is_over k) rows) (places : below ≡ places_below k 0 rows) (under_is : under ≡ length below) where
-  pub count_is : free + over * under ≡ length (eliminated k rows)
+module _ (k : ℕ) (rows : List Made) (free over below : ℕ) (most : length rows ≤ LIMIT)
+    (free_is : free ≡ count_by (is_free k) rows) (over_is : over ≡ count_by (is_over k) rows) (places : below ≡ length (places_below k 0 rows)) where
+  pub count_is : free + over * below ≡ length (eliminated k rows)
   count_is =
-      let e = under_is ∙ ap (length {A = ℕ}) places ∙ length-places k 0 rows in
+      let e = places ∙ length-places k 0 rows in
       let l = length-eliminated k rows in
       rw (free_is, over_is, e) (sym l)
 
-  pub count_small : free + over * under < 2 ^ 64
+  pub count_small : free + over * below < 2 ^ 64
   count_small = let e = count_is in let r = eliminated_room k rows 13122 (omega arith) (omega arith) in omega arith
 
-  pub room_fails : (e : Fault) → RoomIs (free + over * under) (Err e) → SettleIs (eliminated k rows) (EliminationFits k rows) (Err e)
-  room_fails Full h = let c = count_is in λ fits. let f = fits.1 in omega arith
-  room_fails Past h = absurd h
-  room_fails NoMemory h = tt
+-- no more rows are made than there is room for
+pub made_most : (k count : ℕ) (rows out kept new : List Made) → CountIs k rows (Ok count) → out ≡ [] → kept ≡ out ++ flat (kept_of k) rows → new ≡ kept ++ flat (combined_of k rows) rows → length new ≤ LIMIT
+made_most k count rows out kept new room none first more =
+    let e = more ∙ ap (λ (z : List Made). z ++ flat (combined_of k rows) rows) (first ∙ ap (λ (z : List Made). z ++ flat (kept_of k) rows) none) in
+    let l = ap (length {A = Made}) e in
+    let c = room.0 in
+    let m = room.1 in
+    omega arith
 
-  -- and no more than there is room for
-  pub made_most : (out kept new : List Made) → RoomIs (free + over * under) (Ok out) → kept ≡ out ++ flat (kept_of k) rows → new ≡ kept ++ flat (combined_of k rows) rows → length new ≤ LIMIT
-  made_most out kept new room first more =
-      let e = more ∙ ap (λ (z : List Made). z ++ flat (combined_of k rows) rows) (first ∙ ap (λ (z : List Made). z ++ flat (kept_of k) rows) room.1) in
-      let l = ap (length {A = Made}) e in
-      let c = count_is in
-      let m = room.0 in
-      omega arith
+pub count_fails : (k : ℕ) (rows : List Made) {A : Type 0} (v : A) (e : Fault) → CountIs k rows (Err e) → SettleIs v (EliminationFits k rows) (Err e)
+count_fails k rows v Full h = λ fits. let f = fits.1 in omega arith
+count_fails k rows v Past h = absurd h
+count_fails k rows v NoMemory h = tt
+
+pub room_fails : {A : Type 0} (v : A) (F : Type 0) (e : Fault) → SettleIs {A = List Made} [] (Unit {0}) (Err e) → SettleIs v F (Err e)
+room_fails v F Past h = absurd (h tt)
+room_fails v F Full h = absurd (h tt)
+room_fails v F NoMemory h = tt
 
 -- rows that are kept always fit
 pub keep_fails : (items old new rows : List Made) {A : Type 0} (v : A) (F : Type 0) (e : Fault) → Adds items (AllByRecursion (λ r. Unit {0}) rows) old (Err e) new → SettleIs v F (Err e)
@@ -81,7 +86,7 @@ drop_rest xs i x more e = let s : i + 1 ≡ suc i = omega arith in ap (λ (n : �
 
 module _ (k : ℕ) (p : Made) (all : List Made) where
   -- a place of the list, at which the variable has a negative factor
-  abbrev IsPlace : ℕ → Type 0
+  abbrev pub IsPlace : ℕ → Type 0
   IsPlace i = (i < length all) × (is_under k (get_or all i p) ≡ true)
 
   places_are : (i : ℕ) (rs : List Made) → drop i all ≡ rs → AllByRecursion IsPlace (places_below k i rs)
@@ -96,7 +101,7 @@ module _ (k : ℕ) (p : Made) (all : List Made) where
   combined-join [] js = refl
   combined-join (i ∷ is) js = ap (λ (z : List Made). combine k p (get_or all i p) ∷ z) (combined-join is js)
 
-  combined_places : (i : ℕ) (rs : List Made) → drop i all ≡ rs → combined_at k p all (places_below k i rs) ≡ with_each k p rs
+  pub combined_places : (i : ℕ) (rs : List Made) → drop i all ≡ rs → combined_at k p all (places_below k i rs) ≡ with_each k p rs
   combined_places i [] e = refl
   combined_places i (r ∷ rs) e =
       combined-join (place_of k i r) (places_below k (i + 1) rs)
@@ -108,7 +113,7 @@ module _ (k : ℕ) (p : Made) (all : List Made) where
       one false = refl
 
   module _ (below : List ℕ) (are : below ≡ places_below k 0 all) where
-    place_at : (j : ℕ) → j < length below → IsPlace (get_or below j 0)
+    pub place_at : (j : ℕ) → j < length below → IsPlace (get_or below j 0)
     place_at j lt = at below j lt (subst (AllByRecursion IsPlace) (sym are) (places_are 0 all refl))
       where
         at : (is : List ℕ) (j : ℕ) → j < length is → AllByRecursion IsPlace is → IsPlace (get_or is j 0)

@@ -77,7 +77,7 @@ free_over : (k : ℕ) (rs : List Made) (f : Found) → AllFree k rs → back_ove
 free_over k rs (Shown by) h = refl
 free_over k rs (At p) h = ap At (free_placed k rs p h).1
 
-free_level : (k v : ℕ) (rs : List Made) → AllFree v rs → AllFree v (level k rs)
+pub free_level : (k v : ℕ) (rs : List Made) → AllFree v rs → AllFree v (level k rs)
 free_level zero v rs h = h
 free_level (suc k) v rs h = eliminated_free k v (level k rs) (free_level k v rs h)
 

@@ -1,5 +1,5 @@
 -- What has to be in range, and how many rows there may be, for a system to be settled.
-use Rattle.std.specs.Prelude.{◌≡◌, ◌++◌, ◌+◌, ◌<◌, ◌≤◌, ℕ, suc, zero, ℤ, ◌*ℤ◌, neg_ℤ, Bool, true, false, List, [], ◌∷◌, Option, Some, None, Result, Ok, Err, length}
+use Rattle.std.specs.Prelude.{◌≡◌, ◌++◌, ◌<◌, ◌≤◌, ℕ, suc, zero, ℤ, ◌+ℤ◌, ◌*ℤ◌, neg_ℤ, Bool, true, false, List, [], ◌∷◌, Option, Some, None, Result, Ok, Err, length}
 use Rattle.std.specs.List.{AllByRecursion}
 use Rattle.pc_rows.specs.Linear.{Linear, InRange, AllInRange, IsInRange, scale_list, sum_of, scaled_by}
 use Rattle.pc_rows.specs.Evidence.{Point}
@@ -24,6 +24,12 @@ pub record WeighFits (b : ℤ) (p : List ℤ) (a : ℤ) (n : List ℤ) : Type 0 
   pub left : AllInRange (scale_list b p)
   pub right : AllInRange (scale_list a n)
   pub sum : AllInRange (weigh b p a n)
+
+-- the constant alone
+pub record ConstantFits (b c a d : ℤ) : Type 0 where
+  pub left : InRange (b *ℤ c)
+  pub right : InRange (a *ℤ d)
+  pub sum : InRange (b *ℤ c +ℤ a *ℤ d)
 
 -- all that is computed for a combination
 pub record CombineFits (k : ℕ) (p n : Made) : Type 0 where
@@ -52,12 +58,12 @@ PlacesAdded places old (Err Past) new = ⊥
 PlacesAdded places old (Err Full) new = ⊥
 PlacesAdded places old (Err NoMemory) new = Unit {0}
 
--- no rows, with room for so many; Full comes exactly where these are too many
-abbrev pub RoomIs : ℕ → Result (List Made) Fault → Type 0
-RoomIs count (Ok rows) = (count ≤ LIMIT) × (rows ≡ [])
-RoomIs count (Err Full) = LIMIT < count
-RoomIs count (Err Past) = ⊥
-RoomIs count (Err NoMemory) = Unit {0}
+-- how many rows an elimination makes; Full comes exactly where these are too many
+abbrev pub CountIs : ℕ → List Made → Result ℕ Fault → Type 0
+CountIs k rs (Ok count) = (count ≡ length (eliminated k rs)) × (count ≤ LIMIT)
+CountIs k rs (Err Full) = LIMIT < length (eliminated k rs)
+CountIs k rs (Err Past) = ⊥
+CountIs k rs (Err NoMemory) = ⊥
 
 -- all that is computed to eliminate variable k is in range, and there is room for the rows
 abbrev pub EliminationFits : ℕ → List Made → Type 0

@@ -1,13 +1,14 @@
 //! Elimination of one variable.
 
-ghost use Rattle.std.specs.Prelude.{◌≡◌, ◌<◌, ◌≤◌, ℕ, ℤ, true, neg_ℤ, OkIff, IfOk, List, [], ◌∷◌, length, count_by};
+ghost use Rattle.std.specs.Prelude.{◌≡◌, ◌<◌, ◌≤◌, OkIff, IfOk, [], ◌∷◌, length};
 ghost use Rattle.std.specs.List.{AllByRecursion};
-ghost use Rattle.pc_rows.specs.Linear.{sum_of, scaled_by, is_zero};
+ghost use Rattle.pc_rows.specs.Linear.{sum_of, scaled_by};
 ghost use Rattle.pc_elim.specs.declared.made.TheConstants.{LIMIT};
-ghost use Rattle.pc_elim.specs.Elimination.{combine, weigh, factor, is_positive, flat, with_each, kept_of, combined_of, eliminated, place_of, places_below};
-ghost use Rattle.pc_elim.specs.Fits.{RowFits, WeighFits, CombineFits, PairFits, AllPairsFit, EliminationFits, Adds, PlacesAdded, RoomIs, SettleIs};
+ghost use Rattle.pc_elim.specs.Elimination.{combine, weigh, flat, with_each, kept_of, combined_of, eliminated, places_below};
+ghost use Rattle.pc_elim.specs.Fits.{RowFits, WeighFits, CombineFits, PairFits, AllPairsFit, EliminationFits, Adds, SettleIs};
 
 use crate::made::{Fault, LIMIT, Made, PARTS, is_positive};
+use crate::places::{made_count, places_below};
 use pc_rows::{Number, Past, Row, VARIABLES, products, sums};
 use sqlite_items::Items;
 use std::alloc::Global;
@@ -22,64 +23,18 @@ pub fn eliminated(alloc: Global, k: u32, rows: &[Made]) -> Result<Items<Made>, F
     ensures most { IfOk result (λ made. length made ≤ LIMIT) }
 {
     let below = places_below(alloc, k, rows)?;
-    let mut out = with_room(
-        alloc,
-        free_count(k, rows) + above_count(k, rows) * below.len(),
-    )?;
+    let count = made_count(k, rows, below.len())?;
+    let mut out = with_room(alloc, count)?;
     keep(k, rows, &mut out)?;
     combine_each(k, rows, below.as_slice(), &mut out)?;
     Ok(out)
 }
 
-/// How many rows do not have the variable.
-fn free_count(k: u32, rows: &[Made]) -> usize
-    requires { k < VARIABLES }
-    ensures { result ≡ count_by (λ r. is_zero (factor r k)) rows.now }
-{
-    rows.iter().filter(|r| r.factor(k).is_zero()).count()
-}
-
-/// How many rows have the variable with a positive coefficient.
-fn above_count(k: u32, rows: &[Made]) -> usize
-    requires { k < VARIABLES }
-    ensures { result ≡ count_by (λ r. is_positive (factor r k)) rows.now }
-{
-    rows.iter().filter(|r| is_positive(r.factor(k))).count()
-}
-
-/// The places of the rows that have the variable with a negative coefficient.
-fn places_below(alloc: Global, k: u32, rows: &[Made]) -> Result<Items<usize>, Fault>
-    requires { k < VARIABLES }
-    ensures { SettleIs (places_below k 0 rows.now) (Unit {0}) result }
-{
-    let mut places = Items::new(alloc);
-    for (i, r) in rows.iter().enumerate() {
-        note(k, i, r, &mut places)?;
-    }
-    Ok(places)
-}
-
-fn note(k: u32, i: usize, r: &Made, places: &mut Items<usize>) -> Result<(), Fault>
-    requires { k < VARIABLES }
-    ensures { PlacesAdded (place_of k i r.now) places.old result places.new }
-{
-    if !is_positive(r.factor(k).negated()) {
-        return Ok(());
-    }
-    match places.push(i) {
-        Ok(()) => Ok(()),
-        Err(_) => Err(Fault::NoMemory),
-    }
-}
-
 /// No rows, with room for `count`: the room is taken at once, so that no list is copied as it
 /// grows.
 fn with_room(alloc: Global, count: usize) -> Result<Items<Made>, Fault>
-    ensures { RoomIs count result }
+    ensures { SettleIs [] (Unit {0}) result }
 {
-    if LIMIT < count {
-        return Err(Fault::Full);
-    }
     match Vec::with_capacity(alloc, count) {
         Ok(rows) => Ok(Items::from_vec(rows)),
         Err(_) => Err(Fault::NoMemory),
@@ -177,7 +132,8 @@ fn add(out: &mut Items<Made>, made: Made) -> Result<(), Fault>
     }
 }
 
-fn combined(k: u32, p: &Made, n: &Made) -> Result<Made, Past>
+/// The combination of the rows in which the variable is gone.
+pub fn combined(k: u32, p: &Made, n: &Made) -> Result<Made, Past>
     requires { k < VARIABLES }
     ensures { OkIff result (CombineFits k p.now n.now) (combine k p.now n.now) }
 {

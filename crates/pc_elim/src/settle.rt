@@ -7,10 +7,11 @@
 ghost use Rattle.std.specs.Prelude.{◌≡◌, ◌<◌, ◌≤◌, ◌+◌, ◌-◌, IfOk, length};
 ghost use Rattle.pc_elim.specs.declared.made.TheConstants.{LIMIT};
 ghost use Rattle.pc_elim.specs.Elimination.{eliminated, level, has_variable};
-ghost use Rattle.pc_elim.specs.Settling.{ended, settle};
+ghost use Rattle.pc_elim.specs.Settling.{found_by, ended, settle};
 ghost use Rattle.pc_elim.specs.Fits.{EliminationFits, LevelFits, Calm, SettleIs};
 
 use crate::bound::placed;
+use crate::contradiction::{contradiction, last_contradiction};
 use crate::made::{Fault, Made, PARTS};
 use crate::pairs::eliminated;
 use pc_rows::{Number, Point, VARIABLES};
@@ -31,17 +32,26 @@ pub fn settle(alloc: Global, rows: &[Made]) -> Result<Found, Fault>
     requires { length rows.now ≤ LIMIT }
     ensures { SettleIs (settle VARIABLES VARIABLES 0 rows.now) (Calm VARIABLES VARIABLES 0 rows.now) result }
 {
-    let found = last(alloc, rows)?;
+    let found = last(alloc, VARIABLES as u32, rows)?;
     from(alloc, 0, rows, found)
 }
 
-/// How the rows without variables are settled.
-fn last(alloc: Global, start: &[Made]) -> Result<Found, Fault>
-    requires { length start.now ≤ LIMIT }
-    ensures { SettleIs (ended VARIABLES (level VARIABLES start.now)) (LevelFits VARIABLES start.now) result }
+/// Whether there is a contradiction among the rows without the first `k` variables. Of the last of
+/// these variables that occurs the combinations are looked at one by one.
+fn last(alloc: Global, k: u32, start: &[Made]) -> Result<Found, Fault>
+    requires variable { k ≤ VARIABLES }
+    requires most { length start.now ≤ LIMIT }
+    ensures { SettleIs (ended VARIABLES (level k start.now)) (LevelFits k start.now) result }
 {
-    let rows = level(alloc, VARIABLES as u32, start)?;
-    Ok(ended(rows.as_slice()))
+    if k == 0 {
+        return Ok(found_by(contradiction(start)));
+    }
+    if !has_variable(k - 1, start) {
+        return last(alloc, k - 1, start);
+    }
+    let rows = level(alloc, k - 1, start)?;
+    let contradiction = last_contradiction(alloc, k - 1, rows.as_slice())?;
+    Ok(found_by(contradiction))
 }
 
 /// How the rows without the first `k` variables are settled, where `found` says how those without
@@ -86,7 +96,8 @@ fn back_over(alloc: Global, k: u32, start: &[Made], found: Found) -> Result<Foun
 fn level(alloc: Global, k: u32, start: &[Made]) -> Result<Items<Made>, Fault>
     requires variable { k ≤ VARIABLES }
     requires most { length start.now ≤ LIMIT }
-    ensures { SettleIs (level k start.now) (LevelFits k start.now) result }
+    ensures value { SettleIs (level k start.now) (LevelFits k start.now) result }
+    ensures most { IfOk result (λ rows. length rows ≤ LIMIT) }
 {
     let mut rows = copies(alloc, start)?;
     for j in 0..k {
@@ -121,16 +132,15 @@ fn copies(alloc: Global, rows: &[Made]) -> Result<Items<Made>, Fault>
     Ok(all)
 }
 
-/// The first contradiction among rows without variables, or the point at which all variables are 0.
-fn ended(rows: &[Made]) -> Found
-    ensures { result ≡ ended VARIABLES rows.now }
+/// Without variables a contradiction is shown by its multipliers, and where there is none all rows
+/// are met where all variables are 0.
+fn found_by(contradiction: Option<[Number; PARTS]>) -> Found
+    ensures { result ≡ found_by VARIABLES contradiction }
 {
-    for r in rows {
-        if r.is_contradiction() {
-            return Found::Shown(*r.multipliers());
-        }
+    match contradiction {
+        Some(multipliers) => Found::Shown(multipliers),
+        None => Found::At(Point::origin()),
     }
-    Found::At(Point::origin())
 }
 
 fn has_variable(k: u32, rows: &[Made]) -> bool

@@ -6,3 +6,4 @@ pub mod Copying
 pub mod Removing
 pub mod Reducing
 pub mod Modesty
+pub mod Worked
