@@ -1,3 +1,6 @@
+pub mod Numerals
+pub mod WordLists
+pub mod Counted
 pub mod Splits
 pub mod Decimals
 pub mod Names

@@ -6,10 +6,12 @@
 mod alternatives;
 mod certificate;
 mod fault;
-mod line;
+mod heads;
+mod proof_lines;
 mod reader;
 mod reading;
 mod row;
+mod row_lines;
 mod showing;
 #[cfg(test)]
 mod tests;

@@ -9,7 +9,7 @@ ghost use Rattle.pc_cert.specs.declared.certificate.Sizes.{Sizes};
 
 use crate::certificate::Sizes;
 use crate::fault::CertFault;
-use crate::line;
+use crate::{heads, proof_lines, row_lines};
 use pc_rows::{PREMISES, Proof, ROWS, Row, VARIABLES};
 use pc_text::Lines;
 use std::alloc::Global;
@@ -63,7 +63,7 @@ impl<'a> Reader<'a> {
         ensures { Reads (spec.read_line Version (λ _. tt) self.old) result self.new }
     {
         let (number, line) = self.line()?;
-        line::version(line, number)
+        heads::version(line, number)
     }
 
     /// The numbers of points, edges and variables.
@@ -72,7 +72,7 @@ impl<'a> Reader<'a> {
         ensures variables { IfOk result (λ sizes. sizes.variables ≤ VARIABLES) }
     {
         let (number, line) = self.line()?;
-        line::sizes(line, number)
+        heads::sizes(line, number)
     }
 
     /// Whether an alternative begins behind so many others; else the end was read.
@@ -80,7 +80,7 @@ impl<'a> Reader<'a> {
         ensures { (z : Sizes) → Reads (spec.begins z others self.old) result self.new }
     {
         let (number, line) = self.line()?;
-        line::begins(line, others, number)
+        heads::begins(line, others, number)
     }
 
     /// How many rows point `p` has.
@@ -89,7 +89,7 @@ impl<'a> Reader<'a> {
         ensures few { IfOk result (λ count. count ≤ ROWS) }
     {
         let (number, line) = self.line()?;
-        line::head(line, b"point", p, ROWS, number)
+        heads::head(line, b"point", p, ROWS, number)
     }
 
     /// How many proofs edge `e` has.
@@ -97,7 +97,7 @@ impl<'a> Reader<'a> {
         ensures reads { Reads (spec.read_line (Edge e) (number_at 2) self.old) result self.new }
     {
         let (number, line) = self.line()?;
-        line::head(line, b"edge", e, PREMISES, number)
+        heads::head(line, b"edge", e, PREMISES, number)
     }
 
     /// A row over so many variables.
@@ -106,7 +106,7 @@ impl<'a> Reader<'a> {
         ensures { Reads (spec.row_reader variables self.old) result self.new }
     {
         let (number, line) = self.line()?;
-        line::row(alloc, line, variables, number)
+        row_lines::row(alloc, line, variables, number)
     }
 
     /// A proof.
@@ -114,7 +114,7 @@ impl<'a> Reader<'a> {
         ensures { Reads (spec.proof_reader self.old) result self.new }
     {
         let (number, line) = self.line()?;
-        line::proof(alloc, line, number)
+        proof_lines::proof(alloc, line, number)
     }
 
     /// Checks that nothing is left. `Trailing` where something is.

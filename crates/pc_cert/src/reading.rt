@@ -92,7 +92,11 @@ fn annotated(alloc: Global, lines: &mut Reader, sizes: Sizes) -> Result<Annotate
 }
 
 /// The alternatives, and the end behind them.
-fn alternatives(alloc: Global, lines: &mut Reader, sizes: Sizes) -> Result<Items<Annotated>, CertFault>
+fn alternatives(
+    alloc: Global,
+    lines: &mut Reader,
+    sizes: Sizes,
+) -> Result<Items<Annotated>, CertFault>
     requires { sizes.variables ≤ VARIABLES }
     ensures { Reads (spec.alternatives_reader sizes 0 ALTERNATIVES lines.old) result lines.new }
 {

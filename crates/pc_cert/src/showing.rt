@@ -111,8 +111,7 @@ fn push_alternative(text: &mut Text, variables: u32, a: &Annotated) -> Result<()
 }
 
 /// Appends the lines with the version and the sizes.
-fn push_sizes(text: &mut Text, c: &Certificate) -> Result<(), NoMemory> 
-{
+fn push_sizes(text: &mut Text, c: &Certificate) -> Result<(), NoMemory> {
     text.push_all(b"precond 1\ngraph")?;
     push_further(text, i128::from(c.points))?;
     push_further(text, i128::from(c.edges))?;
