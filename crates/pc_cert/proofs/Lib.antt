@@ -1,6 +1,9 @@
 pub mod Numerals
 pub mod WordLists
 pub mod Counted
+pub mod LineSteps
+pub mod PartSteps
+pub mod Told
 pub mod Splits
 pub mod Decimals
 pub mod Names

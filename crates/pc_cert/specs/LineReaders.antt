@@ -45,6 +45,12 @@ abbrev pub goal_of : ℕ → Words → Result (ℤ × Words) CertFault
 goal_of n [] = Err (fault.Form n)
 goal_of n (w ∷ ws) = number_by (word_of w) (are_pairs ws) n ws
 
+-- the part of an index from number `least` on and a multiplier, nothing where it breaks a rule
+abbrev pub part_of : ℕ → ℕ → Word → Option Part
+part_of least i (word.Number z) = if nat_le least i && nat_lt i PREMISES && not (is_zero z) then Some (record { index = i; multiplier = z }) else None
+part_of least i word.Past = None
+part_of least i word.Other = None
+
 -- the pair names a premise from number `least` on, with a multiplier in range and other than 0
 abbrev pub part_keeps : ℕ → Bytes → Bytes → Bool
 part_keeps least i m = nat_le least (natural_of i) && nat_lt (natural_of i) PREMISES && in_range (integer_of m) && not (is_zero (integer_of m))

@@ -25,7 +25,9 @@ fn are_pairs(words: &mut Words) -> bool
 
 /// The part that an index and a multiplier make, which keeps the rules where the index is at least
 /// `least`. Nothing where it breaks one.
-fn part_of(index: u32, multiplier: Word, least: u32) -> Option<Part> {
+fn part_of(index: u32, multiplier: Word, least: u32) -> Option<Part>
+    ensures { result ≡ spec.part_of least index multiplier }
+{
     match multiplier {
         Word::Number(multiplier)
             if least <= index && index < PREMISES as u32 && !multiplier.is_zero() => {
