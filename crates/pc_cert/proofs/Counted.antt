@@ -103,7 +103,7 @@ pub sizes_past : (ws : Words) (n points edges variables : ℕ) → Some (points,
 sizes_past ws n points edges variables e past =
     let found = some_by _ _ (points, edges, variables) (sym (three_counts_are (codes "graph") ws) ∙ sym e) in
     let same : are_within (record { points = points; edges = edges; variables = variables }) ≡ are_within (sizes_of ws) =
-        ap (λ (x : ℕ × ℕ × ℕ). are_within (record { points = x.0; edges = x.1; variables = x.2 })) found.1 ∙ within_same ws in
+    ap (λ (x : ℕ × ℕ × ℕ). are_within (record { points = x.0; edges = x.1; variables = x.2 })) found.1 ∙ within_same ws in
     number_is Graph sizes_of n ws found.0 (sym same ∙ past)
 
 -- the number behind a name and a running number

@@ -3,6 +3,10 @@ pub mod WordLists
 pub mod Counted
 pub mod LineSteps
 pub mod PartSteps
+pub mod LineLaws
+pub mod EndedLines
+pub mod Repeats
+pub mod Rounds
 pub mod Told
 pub mod Splits
 pub mod Decimals

@@ -14,7 +14,8 @@ use Rattle.pc_cert.specs.declared.words.Word.{Word}
 use Rattle.pc_cert.specs.declared.words.Word.TheVariants as word
 use Rattle.pc_cert.specs.Words.{Words, is_count, is_numeral, are_numerals, are_pairs, count_of, word_of}
 use Rattle.pc_cert.specs.Readers.{◌>>=◌}
-use Rattle.pc_cert.specs.LineReaders.{next_number, row_from, broken, part_of, part_keeps, next_part, parts_from}
+use Rattle.pc_cert.specs.Faults.{part_keeps}
+use Rattle.pc_cert.specs.LineReaders.{next_number, row_from, broken, part_of, next_part, parts_from}
 
 one_less : (n i : ℕ) → i < n → n - i ≡ suc (n - (i + 1))
 one_less n i h = omega arith

@@ -44,12 +44,15 @@ has_form (Edge e) ws = is_named (codes "edge") (are_counts 2) ws
 has_form Proof [] = false
 has_form Proof (goal ∷ ws) = is_numeral goal && are_pairs ws
 
--- the pairs name premises that rise from number `least` on, each with a multiplier in range and other than 0
+-- the pair names a premise from number `least` on, with a multiplier in range and other than 0
+abbrev pub part_keeps : ℕ → Bytes → Bytes → Bool
+part_keeps least i m = nat_le least (natural_of i) && nat_lt (natural_of i) PREMISES && in_range (integer_of m) && not (is_zero (integer_of m))
+
+-- the pairs keep the rules, and their indices rise from number `least` on
 abbrev pub pairs_keep : ℕ → Words → Bool
 pairs_keep least [] = true
 pairs_keep least (i ∷ []) = true
-pairs_keep least (i ∷ m ∷ ws) =
-    nat_le least (natural_of i) && nat_lt (natural_of i) PREMISES && in_range (integer_of m) && not (is_zero (integer_of m)) && pairs_keep (natural_of i + 1) ws
+pairs_keep least (i ∷ m ∷ ws) = part_keeps least i m && pairs_keep (natural_of i + 1) ws
 
 -- the rules on the numbers of a line that has its form
 abbrev pub keeps_rules : Wanted → Words → Bool

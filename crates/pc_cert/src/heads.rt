@@ -1,6 +1,6 @@
 //! The lines that tell what follows them: the version, the sizes, and how many rows or proofs.
 
-ghost use Rattle.std.specs.Prelude.{◌≡◌, ◌<◌, ◌-◌, ◌^◌, option_map};
+ghost use Rattle.std.specs.Prelude.{◌≡◌, ◌<◌, ◌-◌, ◌^◌, option_map, IfOk, true};
 ghost use Rattle.pc_cert.specs.Counts as spec;
 ghost use Rattle.pc_cert.specs.Faults.{Version, Graph, Next, sizes_of};
 ghost use Rattle.pc_cert.specs.Readers.{line_value, goes_on, head_value};
@@ -115,7 +115,8 @@ pub fn head(
 
 /// Whether line `number` begins an alternative behind so many others, and is not the end.
 pub fn begins(line: &[u8], others: usize, number: u32) -> Result<bool, CertFault>
-    ensures { (z : Sizes) → result ≡ line_value (Next z others) goes_on number (words line.now) }
+    ensures value { (z : Sizes) → result ≡ line_value (Next z others) goes_on number (words line.now) }
+    ensures room { IfOk result (λ more. more ≡ true → others < ALTERNATIVES) }
 {
     if line == b"end".as_slice() {
         return Ok(false);

@@ -1,13 +1,13 @@
 //! The lines of a certificate, one after another, and what they say.
 
-ghost use Rattle.std.specs.Prelude.{◌≡◌, ◌≤◌, ◌<◌, ◌^◌, length, IfOk, ◌-◌};
+ghost use Rattle.std.specs.Prelude.{◌≡◌, ◌≤◌, ◌<◌, ◌^◌, length, IfOk, ◌-◌, true};
 ghost use Rattle.pc_cert.specs.Answers.{Reads, ReadsLine, Ends};
 ghost use Rattle.pc_cert.specs.Faults.{Version, Graph, Point, Edge, sizes_of};
 ghost use Rattle.pc_cert.specs.Readers as spec;
 ghost use Rattle.pc_cert.specs.Words.{number_at};
 ghost use Rattle.pc_cert.specs.declared.certificate.Sizes.{Sizes};
 
-use crate::certificate::Sizes;
+use crate::certificate::{ALTERNATIVES, Sizes};
 use crate::fault::CertFault;
 use crate::{heads, proof_lines, row_lines};
 use pc_rows::{PREMISES, Proof, ROWS, Row, VARIABLES};
@@ -23,14 +23,13 @@ pub struct Reader<'a> {
 }
 
 impl<'a> Model for Reader<'a> {
-    ghost use Rattle.std.specs.Prelude.{◌≡◌};
-    ghost use Rattle.pc_cert.specs.Readers.{Unread, unread};
+    ghost use Rattle.pc_cert.specs.Readers.{Unread, unread, IsPlaced};
 
     ghost Value = { Unread };
 
     ghost view = { λ r. unread r.lines };
 
-    ghost invariant = { λ r. r.next ≡ r.lines.number };
+    ghost invariant = { λ r. IsPlaced r.lines r.next };
 }
 
 impl<'a> Reader<'a> {
@@ -49,12 +48,14 @@ impl<'a> Reader<'a> {
     fn line(&mut self) -> Result<(u32, &'a [u8]), CertFault>
         ensures { ReadsLine (spec.take_line self.old) self.old.number result self.new }
     {
-        match self.lines.next() {
-            Some((number, line, true)) => {
-                self.next = number + 1;
-                Ok((number, line))
-            }
-            _ => Err(CertFault::Form(self.next)),
+        let Some((number, line, ended)) = self.lines.next() else {
+            return Err(CertFault::Form(self.next));
+        };
+        self.next = number + 1;
+        if ended {
+            Ok((number, line))
+        } else {
+            Err(CertFault::Form(number))
         }
     }
 
@@ -77,7 +78,8 @@ impl<'a> Reader<'a> {
 
     /// Whether an alternative begins behind so many others; else the end was read.
     pub fn begins(&mut self, others: usize) -> Result<bool, CertFault>
-        ensures { (z : Sizes) → Reads (spec.begins z others self.old) result self.new }
+        ensures reads { (z : Sizes) → Reads (spec.begins z others self.old) result self.new }
+        ensures room { IfOk result (λ more. more ≡ true → others < ALTERNATIVES) }
     {
         let (number, line) = self.line()?;
         heads::begins(line, others, number)
@@ -85,6 +87,7 @@ impl<'a> Reader<'a> {
 
     /// How many rows point `p` has.
     pub fn point(&mut self, variables: u32, p: u32) -> Result<usize, CertFault>
+        requires { p < 2 ^ 32 - 1 }
         ensures reads { Reads (spec.read_line (Point variables p) (number_at 2) self.old) result self.new }
         ensures few { IfOk result (λ count. count ≤ ROWS) }
     {
@@ -94,6 +97,7 @@ impl<'a> Reader<'a> {
 
     /// How many proofs edge `e` has.
     pub fn edge(&mut self, e: u32) -> Result<usize, CertFault>
+        requires { e < 2 ^ 32 - 1 }
         ensures reads { Reads (spec.read_line (Edge e) (number_at 2) self.old) result self.new }
     {
         let (number, line) = self.line()?;
@@ -118,10 +122,11 @@ impl<'a> Reader<'a> {
     }
 
     /// Checks that nothing is left. `Trailing` where something is.
-    pub fn end(&mut self) -> Result<(), CertFault>
-        ensures { Ends self.old result }
+    pub fn end(self) -> Result<(), CertFault>
+        ensures { Ends self.entry result }
     {
-        match self.lines.next() {
+        let Reader { mut lines, .. } = self;
+        match lines.next() {
             None => Ok(()),
             Some((number, _, _)) => Err(CertFault::Trailing(number)),
         }

@@ -16,26 +16,26 @@ returns-in_err-part c =
 pub overflow_add-least : goal.overflow_add-least
 overflow_add-least c =
     let next : IsNext c.args.number c.parts.least c.parts.words c.in-Some.part c.next_part.new.words =
-        next_is c.args.number c.parts.least c.parts.words c.next_part.new.words c.in-Some.part (c.in_ok-part.ensures ∙ ap (λ o. Ok (o, c.next_part.new.words)) c.in-Some.is) in
+    next_is c.args.number c.parts.least c.parts.words c.next_part.new.words c.in-Some.part (c.in_ok-part.ensures ∙ ap (λ o. Ok (o, c.next_part.new.words)) c.in-Some.is) in
     let few : c.in-Some.part.index < PREMISES = next.premise in
     omega arith
 
 pub push-requires-clause-rising : goal.push-requires-clause-rising
 push-requires-clause-rising c =
     let next : IsNext c.args.number c.parts.least c.parts.words c.in-Some.part c.next_part.new.words =
-        next_is c.args.number c.parts.least c.parts.words c.next_part.new.words c.in-Some.part (c.in_ok-part.ensures ∙ ap (λ o. Ok (o, c.next_part.new.words)) c.in-Some.is) in
+    next_is c.args.number c.parts.least c.parts.words c.next_part.new.words c.in-Some.part (c.in_ok-part.ensures ∙ ap (λ o. Ok (o, c.next_part.new.words)) c.in-Some.is) in
     above_more c.parts.least c.in-Some.part.index c.parts.parts next.risen c.parts.invariant.above
 
 pub parts-smaller : goal.parts-smaller
 parts-smaller c =
     let next : IsNext c.args.number c.parts.least c.parts.words c.in-Some.part c.next_part.new.words =
-        next_is c.args.number c.parts.least c.parts.words c.next_part.new.words c.in-Some.part (c.in_ok-part.ensures ∙ ap (λ o. Ok (o, c.next_part.new.words)) c.in-Some.is) in
+    next_is c.args.number c.parts.least c.parts.words c.next_part.new.words c.in-Some.part (c.in_ok-part.ensures ∙ ap (λ o. Ok (o, c.next_part.new.words)) c.in-Some.is) in
     next.shorter
 
 pub parts-preserved : goal.parts-preserved
 parts-preserved c =
     let next : IsNext c.args.number c.parts.least c.parts.words c.in-Some.part c.next_part.new.words =
-        next_is c.args.number c.parts.least c.parts.words c.next_part.new.words c.in-Some.part (c.in_ok-part.ensures ∙ ap (λ o. Ok (o, c.next_part.new.words)) c.in-Some.is) in
+    next_is c.args.number c.parts.least c.parts.words c.next_part.new.words c.in-Some.part (c.in_ok-part.ensures ∙ ap (λ o. Ok (o, c.next_part.new.words)) c.in-Some.is) in
     let few : c.in-Some.part.index < PREMISES = next.premise in
     record {
       gives =
