@@ -7,6 +7,7 @@ pub mod LineLaws
 pub mod EndedLines
 pub mod Repeats
 pub mod Rounds
+pub mod Shown
 pub mod Told
 pub mod Splits
 pub mod Decimals

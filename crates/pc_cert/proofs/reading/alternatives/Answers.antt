@@ -32,8 +32,8 @@ returns-in_err-annotated-clause-reads c =
     let f = c.in_err-annotated.field-0.0 in
     reads_on c.from_residual-in_err-annotated.result (alternatives_reader z 0 ALTERNATIVES c.args.lines.now) c.annotated.new.lines (annotated_reader z left ≡ Err f) p.0 f p.1 p.2
     (λ h. sym c.alternatives.invariant.gives
-        ∙ ap (λ k. behind found (alternatives_reader z (length found) k s)) one_less
-        ∙ ap (behind found) (annotated_fault z (length found) s (ALTERNATIVES - (length found + 1)) left f begun h))
+    ∙ ap (λ k. behind found (alternatives_reader z (length found) k s)) one_less
+    ∙ ap (behind found) (annotated_fault z (length found) s (ALTERNATIVES - (length found + 1)) left f begun h))
     c.in_err-annotated.ensures
 
 pub alternatives-preserved : goal.alternatives-preserved
