@@ -1,3 +1,14 @@
+pub mod Numerals
+pub mod WordLists
+pub mod Counted
+pub mod LineSteps
+pub mod PartSteps
+pub mod LineLaws
+pub mod EndedLines
+pub mod Repeats
+pub mod Rounds
+pub mod Shown
+pub mod Told
 pub mod Splits
 pub mod Decimals
 pub mod Names

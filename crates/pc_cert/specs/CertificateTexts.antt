@@ -36,10 +36,15 @@ abbrev pub alternative_lines : ℕ → Annotated → List Words
 alternative_lines variables a =
     (codes "alternative" ∷ []) ∷ (numbered (point_lines variables) 0 a.rows ++ numbered edge_lines 0 a.proofs)
 
+abbrev pub version_line : Words
+version_line = codes "precond" ∷ codes "1" ∷ []
+
+abbrev pub sizes_line : Certificate → Words
+sizes_line c = counts (codes "graph") (c.points ∷ c.edges ∷ c.variables ∷ [])
+
 abbrev pub certificate_lines : Certificate → List Words
 certificate_lines c =
-    (codes "precond" ∷ codes "1" ∷ []) ∷ counts (codes "graph") (c.points ∷ c.edges ∷ c.variables ∷ [])
-    ∷ (flat_map (alternative_lines c.variables) c.alternatives ++ (codes "end" ∷ []) ∷ [])
+    version_line ∷ sizes_line c ∷ (flat_map (alternative_lines c.variables) c.alternatives ++ (codes "end" ∷ []) ∷ [])
 
 -- words parted by one space each, and a line feed
 abbrev pub line_text : Words → Bytes

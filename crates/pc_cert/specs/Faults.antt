@@ -19,15 +19,19 @@ use Rattle.pc_cert.specs.Words.{Words, words, is_empty, is_numeral, are_numerals
 pub data Wanted : Type 0 where
   Version : Wanted
   Graph : Wanted
-  Next : Sizes → ℕ → Wanted   -- the line that begins an alternative behind so many others, or the end
-  Point : ℕ → ℕ → Wanted      -- the head of the rows, over so many variables, of the point of this number
+  Next : Sizes → ℕ → Wanted  -- the line that begins an alternative behind so many others, or the end
+  Point : ℕ → ℕ → Wanted  -- the head of the rows, over so many variables, of the point of this number
   Row : ℕ → Wanted
-  Edge : ℕ → Wanted           -- the head of the proofs of the edge of this number
+  Edge : ℕ → Wanted  -- the head of the proofs of the edge of this number
   Proof : Wanted
 
 -- the three numbers behind `graph`
 abbrev pub sizes_of : Words → Sizes
 sizes_of ws = record { points = number_at 1 ws; edges = number_at 2 ws; variables = number_at 3 ws }
+
+-- sizes within the limits
+abbrev pub are_within : Sizes → Bool
+are_within z = nat_le z.points POINTS && nat_le z.edges EDGES && nat_le z.variables VARIABLES
 
 -- the words and numerals that are wanted
 abbrev pub has_form : Wanted → Words → Bool
@@ -40,17 +44,20 @@ has_form (Edge e) ws = is_named (codes "edge") (are_counts 2) ws
 has_form Proof [] = false
 has_form Proof (goal ∷ ws) = is_numeral goal && are_pairs ws
 
--- the pairs name premises that rise from number `least` on, each with a multiplier in range and other than 0
+-- the pair names a premise from number `least` on, with a multiplier in range and other than 0
+abbrev pub part_keeps : ℕ → Bytes → Bytes → Bool
+part_keeps least i m = nat_le least (natural_of i) && nat_lt (natural_of i) PREMISES && in_range (integer_of m) && not (is_zero (integer_of m))
+
+-- the pairs keep the rules, and their indices rise from number `least` on
 abbrev pub pairs_keep : ℕ → Words → Bool
 pairs_keep least [] = true
 pairs_keep least (i ∷ []) = true
-pairs_keep least (i ∷ m ∷ ws) =
-    nat_le least (natural_of i) && nat_lt (natural_of i) PREMISES && in_range (integer_of m) && not (is_zero (integer_of m)) && pairs_keep (natural_of i + 1) ws
+pairs_keep least (i ∷ m ∷ ws) = part_keeps least i m && pairs_keep (natural_of i + 1) ws
 
 -- the rules on the numbers of a line that has its form
 abbrev pub keeps_rules : Wanted → Words → Bool
 keeps_rules Version ws = true
-keeps_rules Graph ws = nat_le (number_at 1 ws) POINTS && nat_le (number_at 2 ws) EDGES && nat_le (number_at 3 ws) VARIABLES
+keeps_rules Graph ws = are_within (sizes_of ws)
 keeps_rules (Next s n) ws = is_word (codes "end") ws || nat_lt n ALTERNATIVES
 keeps_rules (Point v p) ws = (number_at 1 ws == p) && nat_le (number_at 2 ws) ROWS
 keeps_rules (Row v) ws = list_all in_range (map integer_of ws)

@@ -12,6 +12,7 @@ use Rattle.pc_cert.specs.declared.fault.CertFault.TheVariants as fault
 use Rattle.pc_cert.specs.declared.words.Word.{Word}
 use Rattle.pc_cert.specs.declared.words.Word.TheVariants as word
 use Rattle.pc_cert.specs.Words.{Words, is_empty, is_count, is_numeral, are_numerals, are_pairs, word_of}
+use Rattle.pc_cert.specs.Faults.{part_keeps}
 use Rattle.pc_cert.specs.Readers.{◌>>=◌}
 
 -- the fault of a line with a number that breaks a rule, by whether the words behind it have their form
@@ -45,9 +46,11 @@ abbrev pub goal_of : ℕ → Words → Result (ℤ × Words) CertFault
 goal_of n [] = Err (fault.Form n)
 goal_of n (w ∷ ws) = number_by (word_of w) (are_pairs ws) n ws
 
--- the pair names a premise from number `least` on, with a multiplier in range and other than 0
-abbrev pub part_keeps : ℕ → Bytes → Bytes → Bool
-part_keeps least i m = nat_le least (natural_of i) && nat_lt (natural_of i) PREMISES && in_range (integer_of m) && not (is_zero (integer_of m))
+-- the part of an index from number `least` on and a multiplier, nothing where it breaks a rule
+abbrev pub part_of : ℕ → ℕ → Word → Option Part
+part_of least i (word.Number z) = if nat_le least i && nat_lt i PREMISES && not (is_zero z) then Some (record { index = i; multiplier = z }) else None
+part_of least i word.Past = None
+part_of least i word.Other = None
 
 -- the next part of line `n`, if one is left
 abbrev pub next_part : ℕ → ℕ → Words → Result (Option Part × Words) CertFault

@@ -1,5 +1,5 @@
 -- Certificates read line by line.
-use Rattle.std.specs.Prelude.{ℕ, zero, suc, ◌+◌, ◌-◌, pos, ◌==◌, nat_le, Bool, not, ◌&&◌, if◌then◌else◌, List, [], ◌∷◌, ◌++◌, map, replicate, Option, Some, None, Result, Ok, Err, codes}
+use Rattle.std.specs.Prelude.{◌≡◌, ◌<◌, ◌^◌, length, ℕ, zero, suc, ◌+◌, ◌-◌, pos, ◌==◌, nat_le, Bool, not, ◌&&◌, if◌then◌else◌, List, [], ◌∷◌, ◌++◌, map, replicate, Option, Some, None, Result, Ok, Err, codes}
 use Rattle.pc_rows.specs.declared.proof.Part.{Part}
 use Rattle.pc_rows.specs.declared.row.TheConstants.{VARIABLES}
 use Rattle.pc_rows.specs.Linear.{Linear}
@@ -26,6 +26,11 @@ pub record Unread : Type 0 where
 -- the same, by what the lines of the code have left
 abbrev pub unread : Left → Unread
 unread l = record { number = l.number; lines = ended_lines l.rest; tail = tail_of l.rest }
+
+-- the number is that of the next line, and the lines that are left can be counted on from it
+pub record IsPlaced (l : Left) (n : ℕ) : Type 0 where
+  pub next : n ≡ l.number
+  pub room : l.number + length l.rest < 2 ^ 32
 
 -- a reader gives a value and what is left behind it, or the fault of the first line at fault
 abbrev pub Reader : Type 0 → Type 0
@@ -126,7 +131,7 @@ abbrev pub begins : Sizes → ℕ → Reader Bool
 begins z n = read_line (Next z n) goes_on
 
 -- the alternatives behind `n` others, at most `k` of them
-abbrev pub alternatives_reader : Sizes → ℕ → ℕ → Reader (List Annotated)
+unfoldable pub alternatives_reader : Sizes → ℕ → ℕ → Reader (List Annotated)
 alternatives_reader z n zero s = do
   more ← begins z n s
   Ok ([], more.1)

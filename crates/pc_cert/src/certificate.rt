@@ -1,6 +1,9 @@
 //! Certificates: rows for each point of a graph, and for each edge the proofs of what it owes.
 
-use pc_rows::{Proof, Rows};
+ghost use Rattle.std.specs.Prelude.{◌≡◌};
+ghost use Rattle.pc_cert.specs.Faults.{are_within};
+
+use pc_rows::{Proof, Rows, VARIABLES};
 use sqlite_items::Items;
 use std::marker::Model;
 
@@ -19,6 +22,15 @@ pub(crate) struct Sizes {
     pub points: u32,
     pub edges: u32,
     pub variables: u32,
+}
+
+impl Sizes {
+    /// Whether the sizes are within the limits.
+    pub fn are_within(self) -> bool
+        ensures { result ≡ are_within self }
+    {
+        self.points <= POINTS && self.edges <= EDGES && self.variables <= VARIABLES as u32
+    }
 }
 
 /// An alternative: rows for each point, and for each edge the proofs of the rows that it owes, in

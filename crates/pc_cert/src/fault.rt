@@ -1,3 +1,6 @@
+ghost use Rattle.std.specs.Prelude.{◌≡◌};
+ghost use Rattle.pc_cert.specs.LineReaders as spec;
+
 use pc_rows::NoMemory;
 use std::alloc::AllocError;
 use thiserror::Error;
@@ -39,5 +42,17 @@ impl From<NoMemory> for CertFault {
 
     fn from(_: NoMemory) -> CertFault {
         CertFault::NoMemory
+    }
+}
+
+/// The fault of a line with a number that breaks a rule, by whether the words behind it have their
+/// form.
+pub(crate) fn broken(has_form: bool, number: u32) -> CertFault
+    ensures { result ≡ spec.broken has_form number }
+{
+    if has_form {
+        CertFault::Number(number)
+    } else {
+        CertFault::Form(number)
     }
 }

@@ -6,11 +6,13 @@
 mod alternatives;
 mod certificate;
 mod fault;
-mod line;
+mod heads;
 mod lengths;
+mod proof_lines;
 mod reader;
 mod reading;
 mod row;
+mod row_lines;
 mod showing;
 #[cfg(test)]
 mod tests;

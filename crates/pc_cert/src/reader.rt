@@ -1,15 +1,15 @@
 //! The lines of a certificate, one after another, and what they say.
 
-ghost use Rattle.std.specs.Prelude.{◌≡◌, ◌≤◌, ◌<◌, ◌^◌, length, IfOk, ◌-◌};
+ghost use Rattle.std.specs.Prelude.{◌≡◌, ◌≤◌, ◌<◌, ◌^◌, length, IfOk, ◌-◌, true};
 ghost use Rattle.pc_cert.specs.Answers.{Reads, ReadsLine, Ends};
 ghost use Rattle.pc_cert.specs.Faults.{Version, Graph, Point, Edge, sizes_of};
 ghost use Rattle.pc_cert.specs.Readers as spec;
 ghost use Rattle.pc_cert.specs.Words.{number_at};
 ghost use Rattle.pc_cert.specs.declared.certificate.Sizes.{Sizes};
 
-use crate::certificate::Sizes;
+use crate::certificate::{ALTERNATIVES, Sizes};
 use crate::fault::CertFault;
-use crate::line;
+use crate::{heads, proof_lines, row_lines};
 use pc_rows::{PREMISES, Proof, ROWS, Row, VARIABLES};
 use pc_text::Lines;
 use std::alloc::Global;
@@ -23,14 +23,13 @@ pub struct Reader<'a> {
 }
 
 impl<'a> Model for Reader<'a> {
-    ghost use Rattle.std.specs.Prelude.{◌≡◌};
-    ghost use Rattle.pc_cert.specs.Readers.{Unread, unread};
+    ghost use Rattle.pc_cert.specs.Readers.{Unread, unread, IsPlaced};
 
     ghost Value = { Unread };
 
     ghost view = { λ r. unread r.lines };
 
-    ghost invariant = { λ r. r.next ≡ r.lines.number };
+    ghost invariant = { λ r. IsPlaced r.lines r.next };
 }
 
 impl<'a> Reader<'a> {
@@ -49,12 +48,14 @@ impl<'a> Reader<'a> {
     fn line(&mut self) -> Result<(u32, &'a [u8]), CertFault>
         ensures { ReadsLine (spec.take_line self.old) self.old.number result self.new }
     {
-        match self.lines.next() {
-            Some((number, line, true)) => {
-                self.next = number + 1;
-                Ok((number, line))
-            }
-            _ => Err(CertFault::Form(self.next)),
+        let Some((number, line, ended)) = self.lines.next() else {
+            return Err(CertFault::Form(self.next));
+        };
+        self.next = number + 1;
+        if ended {
+            Ok((number, line))
+        } else {
+            Err(CertFault::Form(number))
         }
     }
 
@@ -63,7 +64,7 @@ impl<'a> Reader<'a> {
         ensures { Reads (spec.read_line Version (λ _. tt) self.old) result self.new }
     {
         let (number, line) = self.line()?;
-        line::version(line, number)
+        heads::version(line, number)
     }
 
     /// The numbers of points, edges and variables.
@@ -72,32 +73,35 @@ impl<'a> Reader<'a> {
         ensures variables { IfOk result (λ sizes. sizes.variables ≤ VARIABLES) }
     {
         let (number, line) = self.line()?;
-        line::sizes(line, number)
+        heads::sizes(line, number)
     }
 
     /// Whether an alternative begins behind so many others; else the end was read.
     pub fn begins(&mut self, others: usize) -> Result<bool, CertFault>
-        ensures { (z : Sizes) → Reads (spec.begins z others self.old) result self.new }
+        ensures reads { (z : Sizes) → Reads (spec.begins z others self.old) result self.new }
+        ensures room { IfOk result (λ more. more ≡ true → others < ALTERNATIVES) }
     {
         let (number, line) = self.line()?;
-        line::begins(line, others, number)
+        heads::begins(line, others, number)
     }
 
     /// How many rows point `p` has.
     pub fn point(&mut self, variables: u32, p: u32) -> Result<usize, CertFault>
+        requires { p < 2 ^ 32 - 1 }
         ensures reads { Reads (spec.read_line (Point variables p) (number_at 2) self.old) result self.new }
         ensures few { IfOk result (λ count. count ≤ ROWS) }
     {
         let (number, line) = self.line()?;
-        line::head(line, b"point", p, ROWS, number)
+        heads::head(line, b"point", p, ROWS, number)
     }
 
     /// How many proofs edge `e` has.
     pub fn edge(&mut self, e: u32) -> Result<usize, CertFault>
+        requires { e < 2 ^ 32 - 1 }
         ensures reads { Reads (spec.read_line (Edge e) (number_at 2) self.old) result self.new }
     {
         let (number, line) = self.line()?;
-        line::head(line, b"edge", e, PREMISES, number)
+        heads::head(line, b"edge", e, PREMISES, number)
     }
 
     /// A row over so many variables.
@@ -106,7 +110,7 @@ impl<'a> Reader<'a> {
         ensures { Reads (spec.row_reader variables self.old) result self.new }
     {
         let (number, line) = self.line()?;
-        line::row(alloc, line, variables, number)
+        row_lines::row(alloc, line, variables, number)
     }
 
     /// A proof.
@@ -114,14 +118,15 @@ impl<'a> Reader<'a> {
         ensures { Reads (spec.proof_reader self.old) result self.new }
     {
         let (number, line) = self.line()?;
-        line::proof(alloc, line, number)
+        proof_lines::proof(alloc, line, number)
     }
 
     /// Checks that nothing is left. `Trailing` where something is.
-    pub fn end(&mut self) -> Result<(), CertFault>
-        ensures { Ends self.old result }
+    pub fn end(self) -> Result<(), CertFault>
+        ensures { Ends self.entry result }
     {
-        match self.lines.next() {
+        let Reader { mut lines, .. } = self;
+        match lines.next() {
             None => Ok(()),
             Some((number, _, _)) => Err(CertFault::Trailing(number)),
         }

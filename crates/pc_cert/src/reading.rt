@@ -1,7 +1,7 @@
 //! Certificates, read from their texts.
 
-ghost use Rattle.std.specs.Prelude.{◌≡◌, ◌≤◌, ◌<◌, ◌-◌, ◌^◌, length};
-ghost use Rattle.pc_cert.specs.Answers.{Reads, Means};
+ghost use Rattle.std.specs.Prelude.{◌≡◌, ◌≤◌, ◌<◌, ◌-◌, ◌^◌, length, IfOk};
+ghost use Rattle.pc_cert.specs.Answers.{Gives, Reads, Means};
 ghost use Rattle.pc_cert.specs.CertificateTexts.{IsTextOf};
 ghost use Rattle.pc_cert.specs.Certificate.{Certificate as Claim};
 ghost use Rattle.pc_cert.specs.Readers as spec;
@@ -32,7 +32,8 @@ fn rows(alloc: Global, lines: &mut Reader, variables: u32, count: usize) -> Resu
 
 /// The rows of point `p`, behind the line that tells how many they are.
 fn point(alloc: Global, lines: &mut Reader, variables: u32, p: u32) -> Result<Rows, CertFault>
-    requires { variables ≤ VARIABLES }
+    requires variables { variables ≤ VARIABLES }
+    requires number { p < 2 ^ 32 - 1 }
     ensures { Reads (spec.point_reader variables p lines.old) result lines.new }
 {
     let count = lines.point(variables, p)?;
@@ -64,6 +65,7 @@ fn proofs(alloc: Global, lines: &mut Reader, count: usize) -> Result<Items<Proof
 
 /// The proofs of edge `e`, behind the line that tells how many they are.
 fn edge(alloc: Global, lines: &mut Reader, e: u32) -> Result<Items<Proof>, CertFault>
+    requires { e < 2 ^ 32 - 1 }
     ensures { Reads (spec.edge_reader e lines.old) result lines.new }
 {
     let count = lines.edge(e)?;
@@ -92,9 +94,14 @@ fn annotated(alloc: Global, lines: &mut Reader, sizes: Sizes) -> Result<Annotate
 }
 
 /// The alternatives, and the end behind them.
-fn alternatives(alloc: Global, lines: &mut Reader, sizes: Sizes) -> Result<Items<Annotated>, CertFault>
+fn alternatives(
+    alloc: Global,
+    lines: &mut Reader,
+    sizes: Sizes,
+) -> Result<Items<Annotated>, CertFault>
     requires { sizes.variables ≤ VARIABLES }
-    ensures { Reads (spec.alternatives_reader sizes 0 ALTERNATIVES lines.old) result lines.new }
+    ensures reads { Reads (spec.alternatives_reader sizes 0 ALTERNATIVES lines.old) result lines.new }
+    ensures few { IfOk result (λ all. length all ≤ ALTERNATIVES) }
 {
     let mut all = Items::new(alloc);
     'alternatives: while lines.begins(all.len())? {
@@ -103,12 +110,11 @@ fn alternatives(alloc: Global, lines: &mut Reader, sizes: Sizes) -> Result<Items
     Ok(all)
 }
 
-/// The certificate that a text spells.
-pub fn read_certificate(alloc: Global, src: &[u8]) -> Result<Certificate, CertFault>
-    requires { length src.now < 2 ^ 32 - 1 }
-    ensures means { Means src.now result }
+/// The certificate that is left, and nothing behind it.
+fn whole(alloc: Global, lines: Reader) -> Result<Certificate, CertFault>
+    ensures { Gives (spec.certificate_reader lines.entry) result }
 {
-    let mut lines = Reader::new(src);
+    let mut lines = lines;
     lines.version()?;
     let sizes = lines.sizes()?;
     let alternatives = alternatives(alloc, &mut lines, sizes)?;
@@ -119,4 +125,18 @@ pub fn read_certificate(alloc: Global, src: &[u8]) -> Result<Certificate, CertFa
         variables: sizes.variables,
         alternatives,
     })
+}
+
+/// The certificate whose text `src` is.
+///
+/// Where it is the text of none, the first line at fault is told. `Form`: it has not the words and
+/// numerals that are wanted behind the lines before it, or no line feed, or is missing; then its
+/// number is that of the next line. `Number`: it has, and breaks a rule on its numbers. `Trailing`:
+/// it stands behind the end.
+pub fn read_certificate(alloc: Global, src: &[u8]) -> Result<Certificate, CertFault>
+    requires { length src.now < 2 ^ 32 - 1 }
+    ensures means { Means src.now result }
+    ensures only { (c : Claim) → IsTextOf src.now c → Gives (Ok c) result }
+{
+    whole(alloc, Reader::new(src))
 }

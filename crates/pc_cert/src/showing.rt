@@ -1,10 +1,12 @@
 //! The text of a certificate.
 
 ghost use Rattle.std.specs.Prelude.{◌≡◌, ◌≤◌, ◌<◌, ◌++◌, [], ◌∷◌, length, codes, OnOk, IfOk, pos};
-ghost use Rattle.std.specs.List.{flat_map};
+ghost use Rattle.std.specs.List.{AllByRecursion, flat_map};
+ghost use Rattle.pc_rows.specs.Joins.{IsRows};
+ghost use Rattle.pc_rows.specs.Evidence.{IsProof};
 ghost use Rattle.pc_text.specs.Numerals.{numeral};
-ghost use Rattle.pc_cert.specs.Certificate.{IsShowable};
-ghost use Rattle.pc_cert.specs.CertificateTexts.{counts, row_line, proof_line, point_lines, edge_lines, alternative_lines, line_text, lines_text, numbered, certificate_text};
+ghost use Rattle.pc_cert.specs.Certificate.{IsShowable, IsAnnotated};
+ghost use Rattle.pc_cert.specs.CertificateTexts.{counts, row_line, proof_line, point_lines, edge_lines, alternative_lines, line_text, lines_text, numbered, version_line, sizes_line, IsTextOf};
 
 use crate::certificate::{Annotated, Certificate};
 use pc_rows::{Proof, Row, Rows, VARIABLES};
@@ -18,6 +20,13 @@ fn push_further(text: &mut Text, number: i128) -> Result<(), NoMemory>
 {
     text.push(b' ')?;
     text.push_number(number)
+}
+
+/// Appends a further count of a line.
+fn push_count(text: &mut Text, count: u32) -> Result<(), NoMemory>
+    ensures { OnOk result (text.new ≡ text.old ++ (codes " " ++ numeral (pos count))) }
+{
+    push_further(text, i128::from(count))
 }
 
 /// Appends the line that begins the rows of a point or the proofs of an edge.
@@ -44,13 +53,14 @@ fn push_row(text: &mut Text, r: &Row, variables: u32) -> Result<(), NoMemory>
 
 /// Appends the line of a proof.
 fn push_proof(text: &mut Text, p: &Proof) -> Result<(), NoMemory>
-    ensures { OnOk result (text.new ≡ text.old ++ line_text (proof_line p.now)) }
+    ensures proof { IsProof p.now }
+    ensures added { OnOk result (text.new ≡ text.old ++ line_text (proof_line p.now)) }
 {
     text.push_number(p.goal().get())?;
     let parts = p.parts();
     'parts: for i in 0..parts.len() {
         let part = parts.at(i);
-        push_further(text, i128::from(part.index))?;
+        push_count(text, part.index)?;
         push_further(text, part.multiplier.get())?;
     }
     text.push(b'\n')
@@ -59,7 +69,8 @@ fn push_proof(text: &mut Text, p: &Proof) -> Result<(), NoMemory>
 /// Appends the lines of point `p`.
 fn push_point(text: &mut Text, variables: u32, p: usize, rows: &Rows) -> Result<(), NoMemory>
     requires { variables ≤ VARIABLES }
-    ensures { OnOk result (text.new ≡ text.old ++ lines_text (point_lines variables p rows.now)) }
+    ensures rows { IsRows rows.now }
+    ensures added { OnOk result (text.new ≡ text.old ++ lines_text (point_lines variables p rows.now)) }
 {
     push_head(text, b"point", p, rows.len())?;
     'rows: for i in 0..rows.len() {
@@ -70,7 +81,8 @@ fn push_point(text: &mut Text, variables: u32, p: usize, rows: &Rows) -> Result<
 
 /// Appends the lines of edge `e`.
 fn push_edge(text: &mut Text, e: usize, proofs: &[Proof]) -> Result<(), NoMemory>
-    ensures { OnOk result (text.new ≡ text.old ++ lines_text (edge_lines e proofs.now)) }
+    ensures proofs { OnOk result (AllByRecursion IsProof proofs.now) }
+    ensures added { OnOk result (text.new ≡ text.old ++ lines_text (edge_lines e proofs.now)) }
 {
     push_head(text, b"edge", e, proofs.len())?;
     'proofs: for p in proofs {
@@ -82,7 +94,8 @@ fn push_edge(text: &mut Text, e: usize, proofs: &[Proof]) -> Result<(), NoMemory
 /// Appends the lines of points.
 fn push_points(text: &mut Text, variables: u32, points: &[Rows]) -> Result<(), NoMemory>
     requires { variables ≤ VARIABLES }
-    ensures { OnOk result (text.new ≡ text.old ++ lines_text (numbered (point_lines variables) 0 points.now)) }
+    ensures rows { OnOk result (AllByRecursion IsRows points.now) }
+    ensures added { OnOk result (text.new ≡ text.old ++ lines_text (numbered (point_lines variables) 0 points.now)) }
 {
     'points: for p in 0..points.len() {
         push_point(text, variables, p, &points[p])?;
@@ -92,7 +105,8 @@ fn push_points(text: &mut Text, variables: u32, points: &[Rows]) -> Result<(), N
 
 /// Appends the lines of edges.
 fn push_edges(text: &mut Text, edges: &[Items<Proof>]) -> Result<(), NoMemory>
-    ensures { OnOk result (text.new ≡ text.old ++ lines_text (numbered edge_lines 0 edges.now)) }
+    ensures proofs { OnOk result (AllByRecursion (AllByRecursion IsProof) edges.now) }
+    ensures added { OnOk result (text.new ≡ text.old ++ lines_text (numbered edge_lines 0 edges.now)) }
 {
     'edges: for e in 0..edges.len() {
         push_edge(text, e, edges[e].as_slice())?;
@@ -103,7 +117,8 @@ fn push_edges(text: &mut Text, edges: &[Items<Proof>]) -> Result<(), NoMemory>
 /// Appends the lines of an alternative.
 fn push_alternative(text: &mut Text, variables: u32, a: &Annotated) -> Result<(), NoMemory>
     requires { variables ≤ VARIABLES }
-    ensures { OnOk result (text.new ≡ text.old ++ lines_text (alternative_lines variables a.now)) }
+    ensures kept { OnOk result (IsAnnotated a.now) }
+    ensures added { OnOk result (text.new ≡ text.old ++ lines_text (alternative_lines variables a.now)) }
 {
     text.push_all(b"alternative\n")?;
     push_points(text, variables, a.rows.as_slice())?;
@@ -111,25 +126,43 @@ fn push_alternative(text: &mut Text, variables: u32, a: &Annotated) -> Result<()
 }
 
 /// Appends the lines with the version and the sizes.
-fn push_sizes(text: &mut Text, c: &Certificate) -> Result<(), NoMemory> 
+fn push_sizes(text: &mut Text, c: &Certificate) -> Result<(), NoMemory>
+    ensures { OnOk result (text.new ≡ text.old ++ (line_text version_line ++ line_text (sizes_line c.now))) }
 {
     text.push_all(b"precond 1\ngraph")?;
-    push_further(text, i128::from(c.points))?;
-    push_further(text, i128::from(c.edges))?;
-    push_further(text, i128::from(c.variables))?;
+    push_count(text, c.points)?;
+    push_count(text, c.edges)?;
+    push_count(text, c.variables)?;
     text.push(b'\n')
 }
 
-/// The text of a certificate.
+/// Appends the lines of alternatives.
+fn push_alternatives(
+    text: &mut Text,
+    variables: u32,
+    alternatives: &[Annotated],
+) -> Result<(), NoMemory>
+    requires { variables ≤ VARIABLES }
+    ensures kept { OnOk result (AllByRecursion IsAnnotated alternatives.now) }
+    ensures added { OnOk result (text.new ≡ text.old ++ lines_text (flat_map (alternative_lines variables) alternatives.now)) }
+{
+    'alternatives: for i in 0..alternatives.len() {
+        push_alternative(text, variables, &alternatives[i])?;
+    }
+    Ok(())
+}
+
+/// The text of a certificate, which [`read_certificate`](crate::read_certificate) reads back.
+///
+/// It has the sizes that it names, is over its variables, and keeps the limits of certificates that
+/// are read.
 pub fn show_certificate(alloc: Global, c: &Certificate) -> Result<Text, NoMemory>
     requires { IsShowable c.now }
-    ensures { IfOk result (λ text. text ≡ certificate_text c.now) }
+    ensures { IfOk result (λ text. IsTextOf text c.now) }
 {
     let mut text = Text::new(alloc);
     push_sizes(&mut text, c)?;
-    'alternatives: for a in c.alternatives.as_slice() {
-        push_alternative(&mut text, c.variables, a)?;
-    }
+    push_alternatives(&mut text, c.variables, c.alternatives.as_slice())?;
     text.push_all(b"end\n")?;
     Ok(text)
 }

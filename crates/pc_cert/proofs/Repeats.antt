@@ -1,0 +1,44 @@
+-- A reader that is repeated, one turn more.
+use Rattle.std.proofs.Common.{◌≡◌, ◌∙◌, refl, ap, sym, subst, ℕ, zero, suc, ◌+◌, ◌-◌, ◌<◌, ◌≤◌, List, [], ◌∷◌, ◌++◌, Result, Ok, Err, append_assoc, arith}
+use Rattle.pc_cert.specs.declared.fault.CertFault.{CertFault}
+use Rattle.pc_cert.specs.Readers.{◌>>=◌, Unread, Reader, repeated}
+
+-- what was read so far, before what is read
+abbrev pub behind : {A : Type 0} → List A → Result (List A × Unread) CertFault → Result (List A × Unread) CertFault
+behind found r = r >>= (λ x. Ok (found ++ x.0, x.1))
+
+behind_cons : {A : Type 0} (found : List A) (x : A) (r : Result (List A × Unread) CertFault) →
+    behind (found ++ x ∷ []) r ≡ behind found (r >>= (λ xs. Ok (x ∷ xs.0, xs.1)))
+behind_cons found x (Ok xs) = ap (λ ys. Ok (ys, xs.1)) (append_assoc found (x ∷ []) xs.0)
+behind_cons found x (Err e) = refl
+
+one_less : (n i : ℕ) → i < n → n - i ≡ suc (n - (i + 1))
+one_less n i h = omega arith
+
+module _ {A : Type 0} (r : ℕ → Reader A) (k i : ℕ) (found : List A) (s : Unread) (within : i < k) where
+  -- a turn that reads
+  pub turn : (more : List A) (x : A) (left : Unread) → r i s ≡ Ok (x, left) → more ≡ found ++ x ∷ [] →
+      behind more (repeated r (i + 1) (k - (i + 1)) left) ≡ behind found (repeated r i (k - i) s)
+  turn more x left e m =
+      ap (λ ys. behind ys (repeated r (i + 1) (k - (i + 1)) left)) m
+      ∙ behind_cons found x (repeated r (i + 1) (k - (i + 1)) left)
+      ∙ sym (ap (λ n. behind found (repeated r i n s)) (one_less k i within)
+      ∙ ap (λ t. behind found (t >>= (λ y. repeated r (i + 1) (k - (i + 1)) y.1 >>= (λ ys. Ok (y.0 ∷ ys.0, ys.1))))) e)
+
+  -- a turn that finds a fault
+  pub turn_fault : (f : CertFault) → r i s ≡ Err f → behind found (repeated r i (k - i) s) ≡ Err f
+  turn_fault f e =
+      ap (λ n. behind found (repeated r i n s)) (one_less k i within)
+      ∙ ap (λ t. behind found (t >>= (λ y. repeated r (i + 1) (k - (i + 1)) y.1 >>= (λ ys. Ok (y.0 ∷ ys.0, ys.1))))) e
+
+behind_none : {A : Type 0} (r : Result (List A × Unread) CertFault) → behind [] r ≡ r
+behind_none (Ok x) = refl
+behind_none (Err e) = refl
+
+-- before the first turn
+pub turns_begin : {A : Type 0} (r : ℕ → Reader A) (k : ℕ) (s : Unread) → behind [] (repeated r 0 (k - 0) s) ≡ repeated r 0 k s
+turns_begin r k s = let all : k - 0 ≡ k = omega arith in ap (λ n. behind [] (repeated r 0 n s)) all ∙ behind_none (repeated r 0 k s)
+
+-- behind the last turn
+pub turns_end : {A : Type 0} (r : ℕ → Reader A) (k i : ℕ) (found : List A) (s : Unread) → k ≤ i → behind found (repeated r i (k - i) s) ≡ Ok (found ++ [], s)
+turns_end r k i found s h = let none : k - i ≡ 0 = omega arith in ap (λ n. behind found (repeated r i n s)) none

@@ -1,0 +1,11 @@
+use Rattle.std.proofs.Common.{◌≡◌, ◌++◌, ◌∷◌, [], take, map, length}
+use Rattle.std.specs.List.{AllByRecursion, flat_map}
+use Rattle.pc_cert.specs.Certificate.{IsAnnotated}
+use Rattle.pc_cert.specs.CertificateTexts.{lines_text, alternative_lines}
+use Rattle.pc_cert.proofs.showing.push_alternatives.Given as goal
+
+abbrev pub invariant-alternatives : goal.invariant-alternatives
+invariant-alternatives l = record {
+  kept : AllByRecursion IsAnnotated (take l.i l.alternatives);
+  text : l.text ≡ l.fn.text ++ lines_text (flat_map (alternative_lines l.variables) (take l.i l.alternatives));
+}
