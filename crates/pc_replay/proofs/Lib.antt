@@ -7,3 +7,4 @@ pub mod Sound
 pub mod Turns
 pub mod Edges
 pub mod Summing
+pub mod Worked
