@@ -103,8 +103,8 @@ module _ (n : ℕ) (a : Annotated) (i : ℕ) (e : Arc) (proofs : List Proof) whe
       needs_met (length proofs == length (owes e.what (rows_at a e.to))) (answer.Count n i) on_rows
       ((Decides-eqb (length proofs) (length (owes e.what (rows_at a e.to)))).1 h.count)
       (ruled_each (row_ruling n a i e) (λ x. RowProved e.what (premises a e) x.0 x.1)
-        (λ k y r. found_nothing (told n i k) (row_flaw e.what (premises a e) y.0 y.1) ((flaws_are_meant e.what (premises a e) y.0 y.1).1 r))
-        0 (zip (asked e.what (rows_at a e.to)) proofs) h.each)
+      (λ k y r. found_nothing (told n i k) (row_flaw e.what (premises a e) y.0 y.1) ((flaws_are_meant e.what (premises a e) y.0 y.1).1 r))
+      0 (zip (asked e.what (rows_at a e.to)) proofs) h.each)
 
 module _ (g : Flow) (n : ℕ) (a : Annotated) where
   abbrev on_entry : Ruling
@@ -130,11 +130,11 @@ module _ (g : Flow) (n : ℕ) (a : Annotated) where
 pub rule_is_meant : RuleIsMeant
 rule_is_meant g c = (
   λ h.
-  let k = needed (has_shape g c) answer.Shape (in_order (alternative_ruling g) 0 c.alternatives) shape_refuses h in
-  record { shape = shape_if g c k.0; each = each_ruled (alternative_ruling g) (AlternativeProved g) (alternative_proved g) 0 c.alternatives k.1 },
+      let k = needed (has_shape g c) answer.Shape (in_order (alternative_ruling g) 0 c.alternatives) shape_refuses h in
+      record { shape = shape_if g c k.0; each = each_ruled (alternative_ruling g) (AlternativeProved g) (alternative_proved g) 0 c.alternatives k.1 },
   λ h.
-  needs_met (has_shape g c) answer.Shape (in_order (alternative_ruling g) 0 c.alternatives) (if_shape g c h.shape)
-  (ruled_each (alternative_ruling g) (AlternativeProved g) (proved_alternative g) 0 c.alternatives h.each),
+      needs_met (has_shape g c) answer.Shape (in_order (alternative_ruling g) 0 c.alternatives) (if_shape g c h.shape)
+      (ruled_each (alternative_ruling g) (AlternativeProved g) (proved_alternative g) 0 c.alternatives h.each),
 )
 
 back_all_is : (w : What) (rows : List Linear) → back_all w rows ≡ map (back w) rows

@@ -63,6 +63,6 @@ got_pair xs ys i x y h g =
     let long = length-zip xs ys in
     slice_get-get_or (zip xs ys) i (x, y) (omega arith)
     ∙ ap Some
-      (get_or-zip xs ys i (x, y) in_xs in_ys
-      ∙ ap (λ z. (z, get_or ys i y)) (get_or_from_slice_get xs i x x h)
-      ∙ ap (λ z. (x, z)) (get_or_from_slice_get ys i y y g))
+    (get_or-zip xs ys i (x, y) in_xs in_ys
+    ∙ ap (λ z. (z, get_or ys i y)) (get_or_from_slice_get xs i x x h)
+    ∙ ap (λ z. (x, z)) (get_or_from_slice_get ys i y y g))
