@@ -1,7 +1,7 @@
 //! Certificates, by example. A row is given by its constant and its coefficients, a proof by the
 //! multiplier of its goal and the indices and multipliers of its premises.
 
-ghost use Rattle.std.specs.Prelude.{◌≡◌, ◌≢◌, ◌<◌, pos, IfSome};
+ghost use Rattle.std.specs.Prelude.{◌≡◌, ◌≢◌, ◌<◌, ◌-◌, ◌^◌, length, pos, IfSome};
 ghost use Rattle.pc_rows.specs.declared.system.TheConstants.{PREMISES};
 
 use crate::replay::accept;
@@ -67,7 +67,9 @@ const LOOP_PROOFS: [&[Multipliers]; 8] = [
     &[],
 ];
 
-fn graph(alloc: Global, source: &[u8]) -> Result<Graph, Fail> {
+fn graph(alloc: Global, source: &[u8]) -> Result<Graph, Fail>
+    requires { length source.now < 2 ^ 32 - 1 }
+{
     let program = read(alloc, source)?;
     let graph = lower(alloc, &program)?;
     Ok(graph)
