@@ -1,5 +1,5 @@
 -- Carrying a row back over an edge is exact.
-use Rattle.std.proofs.Common.{◌≡◌, ℤ, pos, ◌≤ℤ◌, ◌+ℤ◌, List, [], ◌∷◌, length, refl, sym, ap, subst, ◌∙◌, length-set}
+use Rattle.std.proofs.Common.{◌≡◌, pos, ◌≤ℤ◌, ◌+ℤ◌, List, [], ◌∷◌, length, refl, sym, ap, subst, ◌∙◌, length-set}
 use Rattle.std.specs.Prelude.{slice_set}
 use Rattle.pc_rows.specs.Linear.{Linear, value, Meets, MeetsAll, zero_from}
 use Rattle.pc_rows.proofs.Carrying.{substitution_is_exact}

@@ -12,7 +12,7 @@ use Rattle.pc_syntax.specs.Sane.{is_either, rows_in, test_edges, edges_step, edg
 use Rattle.pc_syntax.specs.declared.tree.Compare.{Compare}
 use Rattle.pc_syntax.specs.declared.tree.Test.{Test as Condition}
 use Rattle.pc_syntax.specs.declared.tree.Test.TheVariants as test
-use Rattle.pc_syntax.specs.declared.tree.Stmt.{Stmt, roll-Stmt, fold-roll-Stmt}
+use Rattle.pc_syntax.specs.declared.tree.Stmt.{Stmt, fold-roll-Stmt}
 use Rattle.pc_syntax.specs.declared.tree.Stmt.TheOpen as stmt
 use Rattle.pc_graph.specs.Arc.{Test, Check, arc}
 use Rattle.pc_graph.specs.Lowering.{Rule, one, tests, join_edges, assigned, rule, rule_step, rules}

@@ -1,33 +1,24 @@
 -- What the code of the rules makes is what the rules make.
-use Rattle.std.proofs.Common.{◌≡◌, ℕ, ◌+◌, ◌-◌, ◌<◌, ◌≤◌, ◌^◌, List, [], ◌∷◌, ◌++◌, length, Bool, true, false, refl, sym, ap, subst, ◌∙◌, arith, map, drop, append_assoc, get_or}
-use Rattle.std.specs.Prelude.{◌&&◌, slice_get, Some}
+use Rattle.std.proofs.Common.{◌≡◌, ℕ, ◌+◌, ◌<◌, ◌^◌, List, [], ◌∷◌, length, Bool, true, false, refl, sym, ap, subst, ◌∙◌, arith, map, drop, append_assoc, get_or}
+use Rattle.std.specs.Prelude.{slice_get, Some}
 use Rattle.std.specs.List.{list_all}
-use Rattle.std.proofs.lemmas.List.{drop_more}
-use Rattle.std.proofs.lemmas.Option.{slice_get_within, get_or_from_slice_get}
 use Rattle.pc_text.specs.declared.place.Place.{Place}
 use Rattle.pc_rows.specs.Linear.{Linear, negation}
+use Rattle.pc_rows.proofs.Adding.{drop_at, drop_got}
 use Rattle.pc_syntax.specs.Forms.{row_fits, rows_all}
 use Rattle.pc_syntax.specs.Sane.{sane_stmt, sane_stmts}
 use Rattle.pc_syntax.specs.declared.tree.Compare.{Compare}
 use Rattle.pc_syntax.specs.declared.tree.Test.{Test as Condition}
-use Rattle.pc_syntax.specs.declared.tree.Stmt.{Stmt, roll-Stmt, fold-roll-Stmt}
+use Rattle.pc_syntax.specs.declared.tree.Stmt.{Stmt}
 use Rattle.pc_syntax.specs.declared.tree.Stmt.TheVariants.{If, While, rolls-If, rolls-While}
 use Rattle.pc_syntax.specs.declared.tree.Stmt.TheOpen as stmt
 use Rattle.pc_syntax.proofs.Results.{and_is}
 use Rattle.pc_graph.specs.Arc.{Test, arc}
 use Rattle.pc_graph.specs.Drawn.{Drawn, extended, with_edge, with_tests, branched, joined_at, turned, headed}
-use Rattle.pc_graph.specs.Lowering.{Rule, rule, rule_step, rules}
+use Rattle.pc_graph.specs.Lowering.{rule, rule_step, rules}
 use Rattle.pc_graph.specs.Ways.{apart, ways}
 use Rattle.pc_graph.proofs.Growing.{list_grows}
 use Rattle.pc_graph.proofs.Unrolled.{rule-if, rule-while}
-
--- ---- items of lists
-
-pub drop_at : {A : Type 0} (xs : List A) (i : ℕ) (x : A) → i < length xs → x ≡ get_or xs i x → drop i xs ≡ x ∷ drop (i + 1) xs
-drop_at xs i x lt e = drop_more xs i x lt ∙ ap (λ z. z ∷ drop (i + 1) xs) (sym e)
-
-pub drop_got : {A : Type 0} (xs : List A) (i : ℕ) (x : A) → slice_get xs i ≡ Some x → drop i xs ≡ x ∷ drop (i + 1) xs
-drop_got xs i x e = drop_at xs i x (slice_get_within xs i x e) (sym (get_or_from_slice_get xs i x x e))
 
 -- ---- an edge for the negation of each row
 
@@ -50,56 +41,30 @@ if_is place t xs ys = ap rule (sym (rolls-If place t xs ys)) ∙ rule-if place t
 while_is : (place : Place) (t : Condition) (tried : List Compare) (xs : List Stmt) → rule (While place t tried xs) ≡ rule_step (stmt.While place t tried (map rule xs))
 while_is place t tried xs = ap rule (sym (rolls-While place t tried xs)) ∙ rule-while place t tried xs
 
-pub if_done : (x : Stmt) (place : Place) (t : Condition) (xs ys l1 l2 : List Stmt) (g g1 g2 g3 : Drawn) (p q : ℕ) → x ≡ If place t xs ys → l1 ≡ xs → l2 ≡ ys → p ≡ g.at →
-    g1 ≡ extended (branched p place (ways t true) false g) (rules l1 g.next (g.next + 1)) → q ≡ g1.at →
-    g2 ≡ extended (branched p place (ways t false) false g1) (rules l2 g1.next (g1.next + 1)) → g3 ≡ joined_at place q g2 → g3 ≡ extended g (rule x g.at g.next)
-if_done x place t xs ys l1 l2 g g1 g2 g3 p q ex e1 e2 ep h1 hq h2 h3 = rw (ex, h3, h2, hq, h1, ep, e1, e2, if_is place t xs ys) (simp append_assoc)
+pub if_done : (place : Place) (t : Condition) (xs ys : List Stmt) (g g1 g2 g3 : Drawn) (p q : ℕ) → p ≡ g.at →
+    g1 ≡ extended (branched p place (ways t true) false g) (rules xs g.next (g.next + 1)) → q ≡ g1.at →
+    g2 ≡ extended (branched p place (ways t false) false g1) (rules ys g1.next (g1.next + 1)) → g3 ≡ joined_at place q g2 →
+    g3 ≡ extended g (rule (If place t xs ys) g.at g.next)
+if_done place t xs ys g g1 g2 g3 p q ep h1 hq h2 h3 = rw (h3, h2, hq, h1, ep, if_is place t xs ys) (simp append_assoc)
 
-pub while_done : (x : Stmt) (place : Place) (t : Condition) (tried : List Compare) (xs l1 : List Stmt) (rows : List Linear) (g g0 g1 g2 g3 : Drawn) (p : ℕ) →
-    x ≡ While place t tried xs → l1 ≡ xs → p ≡ g.at → rows ≡ rows_all tried → g0 ≡ headed rows g →
-    g1 ≡ extended (branched p place (ways t true) true g0) (rules l1 g0.next (g0.next + 1)) → g2 ≡ turned p g1 →
-    g3 ≡ branched p place (ways t false) false g2 → g3 ≡ extended g (rule x g.at g.next)
-while_done x place t tried xs l1 rows g g0 g1 g2 g3 p ex e1 ep er h0 h1 h2 h3 = rw (ex, h3, h2, h1, h0, er, ep, e1, while_is place t tried xs) (simp append_assoc)
+pub while_done : (place : Place) (t : Condition) (tried : List Compare) (xs : List Stmt) (rows : List Linear) (g g0 g1 g2 g3 : Drawn) (p : ℕ) →
+    p ≡ g.at → rows ≡ rows_all tried → g0 ≡ headed rows g → g1 ≡ extended (branched p place (ways t true) true g0) (rules xs g0.next (g0.next + 1)) →
+    g2 ≡ turned p g1 → g3 ≡ branched p place (ways t false) false g2 → g3 ≡ extended g (rule (While place t tried xs) g.at g.next)
+while_done place t tried xs rows g g0 g1 g2 g3 p ep er h0 h1 h2 h3 = rw (h3, h2, h1, h0, er, ep, while_is place t tried xs) (simp append_assoc)
 
 -- the numbers that an `if` needs: those of its first block are no greater than those of its second
-pub if_next : (x : Stmt) (place : Place) (t : Condition) (xs ys : List Stmt) (p n : ℕ) → x ≡ If place t xs ys →
-    (rule x p n).next ≡ (rules ys (rules xs n (n + 1)).next ((rules xs n (n + 1)).next + 1)).next + 1
-if_next x place t xs ys p n e = rw (e, if_is place t xs ys) refl
+if_next : (place : Place) (t : Condition) (xs ys : List Stmt) (p n : ℕ) →
+    (rule (If place t xs ys) p n).next ≡ (rules ys (rules xs n (n + 1)).next ((rules xs n (n + 1)).next + 1)).next + 1
+if_next place t xs ys p n = rw (if_is place t xs ys) refl
 
-pub while_next : (x : Stmt) (place : Place) (t : Condition) (tried : List Compare) (xs : List Stmt) (p n : ℕ) → x ≡ While place t tried xs →
-    (rule x p n).next ≡ (rules xs n (n + 1)).next + 1
-while_next x place t tried xs p n e = rw (e, while_is place t tried xs) refl
-
--- the room of an `if` is room for its first block, for its second, and for the point after them
-pub then_room : (x : Stmt) (place : Place) (t : Condition) (xs ys l1 : List Stmt) (g : Drawn) → x ≡ If place t xs ys → l1 ≡ xs →
-    (rule x g.at g.next).next < 2 ^ 32 → (rules l1 g.next (g.next + 1)).next < 2 ^ 32
-then_room x place t xs ys l1 g ex e1 room =
-    let next = if_next x place t xs ys g.at g.next ex in
+-- the room of an `if` is room for its first block
+pub then_room : (place : Place) (t : Condition) (xs ys : List Stmt) (g : Drawn) → (rule (If place t xs ys) g.at g.next).next < 2 ^ 32 →
+    (rules xs g.next (g.next + 1)).next < 2 ^ 32
+then_room place t xs ys g room =
+    let next = if_next place t xs ys g.at g.next in
     let first = rules xs g.next (g.next + 1) in
     let more = list_grows ys first.next (first.next + 1) in
-    rw e1 (omega arith)
-
-pub else_room : (x : Stmt) (place : Place) (t : Condition) (xs ys l1 l2 : List Stmt) (g g1 : Drawn) (p : ℕ) → x ≡ If place t xs ys → l1 ≡ xs → l2 ≡ ys →
-    g1 ≡ extended (branched p place (ways t true) false g) (rules l1 g.next (g.next + 1)) →
-    (rule x g.at g.next).next < 2 ^ 32 → (rules l2 g1.next (g1.next + 1)).next + 1 < 2 ^ 32
-else_room x place t xs ys l1 l2 g g1 p ex e1 e2 h1 room =
-    let next = if_next x place t xs ys g.at g.next ex in
-    rw (h1, e2, e1) (omega arith)
-
-pub join_room : (x : Stmt) (place : Place) (t : Condition) (xs ys l1 l2 : List Stmt) (g g1 g2 : Drawn) (p : ℕ) → x ≡ If place t xs ys → l1 ≡ xs → l2 ≡ ys →
-    g1 ≡ extended (branched p place (ways t true) false g) (rules l1 g.next (g.next + 1)) →
-    g2 ≡ extended (branched p place (ways t false) false g1) (rules l2 g1.next (g1.next + 1)) →
-    (rule x g.at g.next).next < 2 ^ 32 → g2.next < 2 ^ 32 - 1
-join_room x place t xs ys l1 l2 g g1 g2 p ex e1 e2 h1 h2 room =
-    let more = else_room x place t xs ys l1 l2 g g1 p ex e1 e2 h1 room in
-    rw h2 (omega arith)
-
--- and that of a `while` is room for its block and for the point after it
-pub body_room : (x : Stmt) (place : Place) (t : Condition) (tried : List Compare) (xs l1 : List Stmt) (rows : List Linear) (g g0 : Drawn) → x ≡ While place t tried xs → l1 ≡ xs →
-    g0 ≡ headed rows g → (rule x g.at g.next).next < 2 ^ 32 → (rules l1 g0.next (g0.next + 1)).next + 1 < 2 ^ 32
-body_room x place t tried xs l1 rows g g0 ex e1 h0 room =
-    let next = while_next x place t tried xs g.at g.next ex in
-    rw (h0, e1) (omega arith)
+    omega arith
 
 -- ---- a list of statements, of which the first are done
 

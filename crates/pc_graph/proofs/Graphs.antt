@@ -1,10 +1,11 @@
 -- The graph of a program keeps what every graph keeps.
-use Rattle.std.proofs.Common.{◌≡◌, ℕ, ◌+◌, ◌<◌, ◌≤◌, ◌^◌, zero, suc, List, [], ◌∷◌, ◌++◌, length, Bool, true, false, refl, sym, ap, subst, ◌∙◌, arith, map, inl, inr}
-use Rattle.std.specs.Prelude.{◌⊎◌, ◌&&◌, ◌||◌, ◌==◌, nat_le, sum, IfSome, slice_get}
+use Rattle.std.proofs.Common.{◌≡◌, ℕ, ◌+◌, ◌<◌, ◌≤◌, ◌^◌, zero, suc, List, [], ◌∷◌, length, Bool, true, false, refl, ap, subst, ◌∙◌, arith, map, inl, inr}
+use Rattle.std.specs.Prelude.{◌⊎◌, ◌&&◌, ◌||◌, ◌==◌, nat_le, sum}
 use Rattle.std.specs.List.{AllByRecursion as Each, list_any}
 use Rattle.std.proofs.lemmas.Bool.Decides.{nat_tests}
 use Rattle.pc_text.specs.declared.place.Place.{Place}
 use Rattle.pc_rows.specs.declared.row.TheConstants.{VARIABLES}
+use Rattle.pc_rows.specs.Linear.{IsOver}
 use Rattle.pc_syntax.specs.declared.limits.TheConstants.{EDGES}
 use Rattle.pc_syntax.specs.declared.program.Program.{Program}
 use Rattle.pc_syntax.specs.declared.tree.Stmt.{Stmt}
@@ -12,16 +13,16 @@ use Rattle.pc_syntax.specs.Sane.{sane_stmts, edges, edges_of}
 use Rattle.pc_syntax.proofs.Results.{and_is}
 use Rattle.pc_graph.specs.declared.draft.Loop.{Loop}
 use Rattle.pc_graph.specs.declared.point.PointInfo.{PointInfo}
-use Rattle.pc_graph.specs.Arc.{Arc}
+use Rattle.pc_graph.specs.Arc.{Enter, Arc, arc}
 use Rattle.pc_graph.specs.Drawn.{Drawn, extended, entered}
 use Rattle.pc_graph.specs.Flow.{Flow}
-use Rattle.pc_graph.specs.Lists.{In}
 use Rattle.pc_graph.specs.Lowering.{rules, made, graph, points_from}
 use Rattle.pc_graph.specs.Shape.{IsHead, LeadsUp, IsGraph}
 use Rattle.pc_graph.proofs.Counts.{all_counted}
 use Rattle.pc_graph.proofs.Lists.{each_more, each_in}
 use Rattle.pc_graph.proofs.Ready.{le_of}
-use Rattle.pc_graph.proofs.Shapes.{HeadIn, IsUp, Shaped, all_shaped}
+use Rattle.pc_graph.proofs.Shapes.{HeadIn, IsUp, IsLoop, Shaped, all_shaped}
+use Rattle.pc_graph.proofs.Variables.{points_over}
 
 -- ---- points
 
@@ -42,9 +43,9 @@ or_false true b h k = cc
 or_false false b h k = k
 
 -- no loop begins at the entry
-no_head : (loops : List Loop) → Each (λ l. 0 < l.head) loops → list_any (λ l. l.head == 0) loops ≡ false
-no_head [] h = refl
-no_head (l ∷ loops) h = or_false (l.head == 0) (list_any (λ l. l.head == 0) loops) (apart_from l.head h.0) (no_head loops h.1)
+no_head : (v : ℕ) (loops : List Loop) → Each (IsLoop v) loops → list_any (λ l. l.head == 0) loops ≡ false
+no_head v [] h = refl
+no_head v (l ∷ loops) h = or_false (l.head == 0) (list_any (λ l. l.head == 0) loops) (apart_from l.head h.0.away) (no_head v loops h.1)
 
 -- ---- a program
 
@@ -83,6 +84,7 @@ leads p m e long up =
 
 pub graph_kept : (p : Program) → IsGraph (graph p)
 graph_kept p =
+    let v = length p.names.names in
     let k = keeps p in
     let a = made p in
     let f = made_shape p in
@@ -99,8 +101,14 @@ graph_kept p =
       points = omega arith;
       edges = omega arith;
       bodies = ap suc f.bodies;
+      tried = points_over v a.loops 0 places (each_more (IsLoop v) (λ l. Each (IsOver v) l.tried) (λ l h. h.over) a.loops f.loops);
       enters = refl;
-      entry = no_head a.loops f.heads;
+      alone = (
+        λ h. refl,
+        each_more (IsUp v a.next a.loops) (λ e. e.from ≡ 0 → e ≡ arc 0 1 (Enter p.names.params)) (λ e up h. let away = up.away in absurd (omega arith)) a.edges
+            (f.edges a.next a.loops (omega arith) (each_in a.loops)),
+      );
+      entry = no_head v a.loops f.loops;
       leads = (
         record { leaves = omega arith; reaches = omega arith; rises = inl (omega arith); over = k.params },
         each_more (IsUp (length p.names.names) a.next a.loops) (LeadsUp (graph p).points (graph p).variables) (λ e up. leads p a.next e long up) a.edges

@@ -13,8 +13,10 @@ pub mod Ready
 pub mod Growing
 pub mod Drawing
 pub mod Weights
+pub mod Variables
 pub mod Shapes
 pub mod Counts
 pub mod Graphs
+pub mod Turns
 pub mod Straights
 pub mod Programs

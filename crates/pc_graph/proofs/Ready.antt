@@ -1,6 +1,6 @@
 -- What the context rules say of comparisons, tests and statements, as the code that makes rows and edges needs it.
-use Rattle.std.proofs.Common.{◌≡◌, ℕ, ◌+◌, ◌*◌, ◌≤◌, List, [], ◌∷◌, ◌++◌, length, Bool, true, false, refl, sym, ap, ◌∙◌, arith, length-append}
-use Rattle.std.specs.Prelude.{◌&&◌, not, nat_le, nat_lt}
+use Rattle.std.proofs.Common.{◌≡◌, ℕ, ◌*◌, ◌≤◌, List, [], ◌∷◌, ◌++◌, length, Bool, true, refl, sym, ap, ◌∙◌, arith, length-append}
+use Rattle.std.specs.Prelude.{◌&&◌, not, nat_le}
 use Rattle.std.specs.List.{list_all}
 use Rattle.std.proofs.lemmas.Bool.Decides.{nat_tests}
 use Rattle.pc_text.specs.declared.place.Place.{Place}
@@ -9,9 +9,8 @@ use Rattle.pc_grammar.specs.declared.tree.Op.TheVariants as op
 use Rattle.pc_rows.specs.Linear.{Linear}
 use Rattle.pc_grammar.specs.declared.limits.TheConstants.{COMPARISONS}
 use Rattle.pc_syntax.specs.Forms.{is_unequal, has_rows, row_fits, rows_by, rows_of, rows_all, form}
-use Rattle.pc_syntax.specs.Sane.{sane_expr, sane_compare, sane_each, sane_all, sane_test, sane_right, sane_step, sane_stmt, sane_stmts, has_sane_rows}
+use Rattle.pc_syntax.specs.Sane.{sane_expr, sane_compare, sane_each, sane_all, sane_test, sane_step, sane_stmt, sane_stmts, has_sane_rows}
 use Rattle.pc_syntax.specs.declared.tree.Compare.{Compare}
-use Rattle.pc_syntax.specs.declared.tree.Right.{Right}
 use Rattle.pc_syntax.specs.declared.tree.Test.{Test}
 use Rattle.pc_syntax.specs.declared.tree.Test.TheVariants as test
 use Rattle.pc_syntax.specs.declared.tree.Stmt.{Stmt, fold-roll-Stmt}
@@ -108,17 +107,16 @@ assume_ready n x p cs e h =
     all_ready n cs (sym (ap (sane_stmt n) (e ∙ sym (rolls-Assume p cs)) ∙ fold-roll-Stmt Bool (sane_step n) (stmt.Assume p cs)) ∙ h)
 
 -- the parts of an `if` keep the rules
-pub if_ready : (n : ℕ) (x : Stmt) (p : Place) (t : Test) (xs ys : List Stmt) → x ≡ If p t xs ys → sane_stmt n x ≡ true →
-    (sane_test n t ≡ true) × (sane_stmts n xs ≡ true) × (sane_stmts n ys ≡ true)
-if_ready n x p t xs ys e h =
-    let a = and_is (sane_test n t) (sane_stmts n xs && sane_stmts n ys) (sym (ap (sane_stmt n) (e ∙ sym (rolls-If p t xs ys)) ∙ sane-if n p t xs ys) ∙ h) in
-    let b = and_is (sane_stmts n xs) (sane_stmts n ys) a.1 in
-    (a.0, b.0, b.1)
+pub if_ready : (n : ℕ) (p : Place) (t : Test) (xs ys : List Stmt) → sane_stmt n (If p t xs ys) ≡ true →
+    (sane_test n t ≡ true) × ((sane_stmts n xs ≡ true) × (sane_stmts n ys ≡ true))
+if_ready n p t xs ys h =
+    let a = and_is (sane_test n t) (sane_stmts n xs && sane_stmts n ys) (sym (ap (sane_stmt n) (sym (rolls-If p t xs ys)) ∙ sane-if n p t xs ys) ∙ h) in
+    (a.0, and_is (sane_stmts n xs) (sane_stmts n ys) a.1)
 
 -- the parts of a `while` keep the rules
-pub while_ready : (n : ℕ) (x : Stmt) (p : Place) (t : Test) (tried : List Compare) (xs : List Stmt) → x ≡ While p t tried xs → sane_stmt n x ≡ true →
-    (sane_test n t ≡ true) × IsReady tried × (sane_stmts n xs ≡ true)
-while_ready n x p t tried xs e h =
-    let a = and_is (sane_test n t) (sane_each n tried && sane_stmts n xs) (sym (ap (sane_stmt n) (e ∙ sym (rolls-While p t tried xs)) ∙ sane-while n p t tried xs) ∙ h) in
+pub while_ready : (n : ℕ) (p : Place) (t : Test) (tried : List Compare) (xs : List Stmt) → sane_stmt n (While p t tried xs) ≡ true →
+    (sane_test n t ≡ true) × (IsReady tried × (sane_stmts n xs ≡ true))
+while_ready n p t tried xs h =
+    let a = and_is (sane_test n t) (sane_each n tried && sane_stmts n xs) (sym (ap (sane_stmt n) (sym (rolls-While p t tried xs)) ∙ sane-while n p t tried xs) ∙ h) in
     let b = and_is (sane_each n tried) (sane_stmts n xs) a.1 in
-    (a.0, each_ready n tried b.0, b.1)
+    (a.0, (each_ready n tried b.0, b.1))

@@ -1,5 +1,5 @@
 -- What the rules make: as many points as numbers, no more of them than edges, and edges that lead up or back to a head.
-use Rattle.std.proofs.Common.{◌≡◌, ℕ, ◌+◌, ◌<◌, ◌≤◌, ℤ, pos, ◌≤ℤ◌, List, [], ◌∷◌, ◌++◌, length, Bool, true, false, refl, sym, ap, subst, ◌∙◌, arith, map, inl, inr, length-append, int_le}
+use Rattle.std.proofs.Common.{◌≡◌, ℕ, ◌+◌, ◌<◌, ◌≤◌, ℤ, pos, ◌≤ℤ◌, List, [], ◌∷◌, ◌++◌, length, Bool, true, false, refl, sym, subst, arith, map, inl, inr, length-append, int_le}
 use Rattle.std.specs.Prelude.{◌⊎◌, ◌&&◌, ◌||◌, ◌==◌, nat_lt, Option, Some, None}
 use Rattle.std.specs.List.{AllByRecursion as Each, list_any}
 use Rattle.std.proofs.lemmas.Bool.Decides.{nat_tests}
@@ -8,42 +8,48 @@ use Rattle.pc_text.specs.declared.place.Place.{Place}
 use Rattle.pc_grammar.specs.declared.tree.Bound.{Bound}
 use Rattle.pc_grammar.specs.declared.tree.Bound.TheVariants as bound
 use Rattle.pc_grammar.specs.declared.tree.Choice.{Choice}
-use Rattle.pc_rows.specs.Linear.{Linear, in_range, negation}
+use Rattle.pc_rows.specs.Linear.{Linear, IsOver, in_range}
 use Rattle.pc_rows.specs.declared.row.TheConstants.{VARIABLES}
 use Rattle.pc_rows.proofs.Ranges.{is_in}
-use Rattle.pc_syntax.specs.Forms.{rows_all}
-use Rattle.pc_syntax.specs.Machine.{end_of}
-use Rattle.pc_syntax.specs.Sane.{sane_stmt, sane_step, sane_stmts, sane_test, sane_each, sane_all, sane_right, sane_expr, sane_choice, in_order}
+use Rattle.pc_syntax.specs.Forms.{form, is_affine, rows_all}
+use Rattle.pc_syntax.specs.Sane.{sane_stmt, sane_step, sane_stmts, sane_test, sane_each, sane_all, sane_right, sane_expr, names_below, sane_choice, in_order}
 use Rattle.pc_syntax.specs.declared.tree.Compare.{Compare}
 use Rattle.pc_syntax.specs.declared.tree.Right.{Right}
 use Rattle.pc_syntax.specs.declared.tree.Test.{Test as Condition}
 use Rattle.pc_syntax.specs.declared.tree.Test.TheVariants as test
-use Rattle.pc_syntax.specs.declared.tree.Stmt.{Stmt, roll-Stmt, fold-roll-Stmt}
+use Rattle.pc_syntax.specs.declared.tree.Stmt.{Stmt, fold-roll-Stmt}
 use Rattle.pc_syntax.specs.declared.tree.Stmt.TheOpen as stmt
 use Rattle.pc_syntax.proofs.Results.{and_is}
 use Rattle.pc_graph.specs.declared.draft.Loop.{Loop}
 use Rattle.pc_graph.specs.declared.what.TheConstants.{TEST_ROWS}
-use Rattle.pc_graph.specs.Arc.{What, Enter, Test, Set, Check, Arc, arc, IsFit, BoundsFit}
+use Rattle.pc_graph.specs.Arc.{What, Test, Check, Arc, arc, IsFit, BoundsFit}
 use Rattle.pc_graph.specs.Lists.{In}
 use Rattle.pc_graph.specs.Lowering.{Piece, Rule, one, tests, all_alike, join_edges, low_end, high_end, assigned, rule, rule_step, rules}
-use Rattle.pc_graph.specs.Shape.{IsOver}
+use Rattle.pc_graph.specs.Shape.{WhatIsOver}
 use Rattle.pc_graph.specs.Ways.{is_lone, apart, ways_of, ways}
 use Rattle.pc_graph.proofs.Cases.{by_cases}
-use Rattle.pc_graph.proofs.Lists.{each_left, each_right, each_join, each_more, each_all}
-use Rattle.pc_graph.proofs.Ready.{IsReady, ready_few, test_ready, all_ready}
+use Rattle.pc_graph.proofs.Lists.{each_left, each_right, each_join, each_all}
+use Rattle.pc_graph.proofs.Ready.{ready_few, test_ready, all_ready}
+use Rattle.pc_graph.proofs.Variables.{form_is_over, each_over, all_over, ways_over}
 use Rattle.pc_graph.proofs.Unrolled.{rule-if, rule-while, sane-if, sane-while}
 
 -- the number is the head of one of the loops
 abbrev pub HeadIn : List Loop → ℕ → Type 0
 HeadIn loops p = list_any (λ l. l.head == p) loops ≡ true
 
--- an edge joins points below m, leads up or back to a head, and is within the limits of v variables
+-- an edge joins points below m, leaves another point than 0, leads up or back to a head, and is over v variables
 pub record IsUp (v m : ℕ) (loops : List Loop) (e : Arc) : Type 0 where
+  pub away : 0 < e.from
   pub leaves : e.from < m
   pub reaches : e.to < m
   pub rises : (e.from < e.to) ⊎ HeadIn loops e.to
-  pub over : IsOver v e.what
+  pub over : WhatIsOver v e.what
   pub fit : IsFit e.what
+
+-- a loop begins after the entry, and what it tries is over v variables
+pub record IsLoop (v : ℕ) (l : Loop) : Type 0 where
+  pub away : 0 < l.head
+  pub over : Each (IsOver v) l.tried
 
 -- of a piece that is made from the number n on
 pub record Shaped (v n : ℕ) (a : Piece) : Type 0 where
@@ -53,7 +59,7 @@ pub record Shaped (v n : ℕ) (a : Piece) : Type 0 where
   pub points : a.next ≡ n + length a.places
   pub few : a.next ≤ n + length a.edges
   pub bodies : length a.bodies ≡ length a.edges
-  pub heads : Each (λ l. 0 < l.head) a.loops
+  pub loops : Each (IsLoop v) a.loops
   pub edges : (m : ℕ) (loops : List Loop) → a.next ≤ m → Each (λ l. In l loops) a.loops → Each (IsUp v m loops) a.edges
 
 or_left : (a b : Bool) → a ≡ true → (a || b) ≡ true
@@ -117,15 +123,18 @@ below a b h = grind (arith, nat_tests)
 assigned_fits : (n v : ℕ) (r : Right) → n ≤ VARIABLES → v < n → sane_right n r ≡ true → IsFit (assigned v r)
 assigned_fits n v r few lt h = (omega arith, choice_fits r.choice (and_is (sane_expr n r.expr) (sane_choice r.choice) h).1)
 
+right_over : (n : ℕ) (r : Right) → sane_right n r ≡ true → IsOver n (form r.expr)
+right_over n r h = form_is_over n r.expr (and_is (is_affine r.expr) (names_below n r.expr) (and_is (sane_expr n r.expr) (sane_choice r.choice) h).0).1
+
 -- ---- rules
 
 module _ (v : ℕ) (few : v ≤ VARIABLES) where
-  tests_up : (m : ℕ) (loops : List Loop) (p q : ℕ) (ws : List (List Linear)) → p < q → q < m → Each (λ w. length w ≤ TEST_ROWS) ws → Each (IsUp v m loops) (tests p q ws)
-  tests_up m loops p q [] h k f = tt
-  tests_up m loops p q (w ∷ ws) h k f = (record { leaves = omega arith; reaches = k; rises = inl h; over = tt; fit = f.0 }, tests_up m loops p q ws h k f.1)
+  tests_up : (m : ℕ) (loops : List Loop) (p q : ℕ) (ws : List (List Linear)) → 0 < p → p < q → q < m → Each (λ w. length w ≤ TEST_ROWS) ws → Each (Each (IsOver v)) ws → Each (IsUp v m loops) (tests p q ws)
+  tests_up m loops p q [] a h k f o = tt
+  tests_up m loops p q (w ∷ ws) a h k f o = (record { away = a; leaves = omega arith; reaches = k; rises = inl h; over = o.0; fit = f.0 }, tests_up m loops p q ws a h k f.1 o.1)
 
-  join_up : (m : ℕ) (loops : List Loop) (p q : ℕ) → p < q → q < m → IsUp v m loops (arc p q (Test []))
-  join_up m loops p q h k = record { leaves = omega arith; reaches = k; rises = inl h; over = tt; fit = omega arith }
+  join_up : (m : ℕ) (loops : List Loop) (p q : ℕ) → 0 < p → p < q → q < m → IsUp v m loops (arc p q (Test []))
+  join_up m loops p q a h k = record { away = a; leaves = omega arith; reaches = k; rises = inl h; over = tt; fit = omega arith }
 
   tests-length : (p q : ℕ) (ws : List (List Linear)) → length (tests p q ws) ≡ length ws
   tests-length p q [] = refl
@@ -146,7 +155,7 @@ module _ (v : ℕ) (few : v ≤ VARIABLES) where
 
   list_shaped : (ss : List Stmt) → Each ShapedOne ss → ShapedBy (sane_stmts v ss) (rules ss)
   list_shaped [] all p n s pos_p h =
-      record { more = omega arith; last = h; away = pos_p; points = omega arith; few = omega arith; bodies = refl; heads = tt; edges = λ m loops le ins. tt }
+      record { more = omega arith; last = h; away = pos_p; points = omega arith; few = omega arith; bodies = refl; loops = tt; edges = λ m loops le ins. tt }
   list_shaped (x ∷ ss) all p n s pos_p h =
       let ok = and_is (sane_stmt v x) (sane_stmts v ss) s in
       let a = rule x p n in
@@ -168,12 +177,12 @@ module _ (v : ℕ) (few : v ≤ VARIABLES) where
         points = omega (arith, length-append a.places b.places);
         few = omega (arith, length-append a.edges b.edges);
         bodies = omega (arith, length-append a.edges b.edges, length-append a.bodies b.bodies);
-        heads = each_join (λ l. 0 < l.head) a.loops b.loops f.heads r.heads;
+        loops = each_join (IsLoop v) a.loops b.loops f.loops r.loops;
         edges = λ m loops le ins. each_join (IsUp v m loops) a.edges b.edges (f.edges m loops (omega arith) (each_left (λ l. In l loops) a.loops b.loops ins))
             (r.edges m loops le (each_right (λ l. In l loops) a.loops b.loops ins));
       }
 
-  one_shaped : (place : Place) (w : What) → IsOver v w → IsFit w → (p n : ℕ) → 0 < p → p < n → Shaped v n (one place w p n)
+  one_shaped : (place : Place) (w : What) → WhatIsOver v w → IsFit w → (p n : ℕ) → 0 < p → p < n → Shaped v n (one place w p n)
   one_shaped place w over fit p n pos_p h =
       record {
         more = omega arith;
@@ -182,8 +191,8 @@ module _ (v : ℕ) (few : v ≤ VARIABLES) where
         points = omega arith;
         few = omega arith;
         bodies = refl;
-        heads = tt;
-        edges = λ m loops le ins. (record { leaves = omega arith; reaches = omega arith; rises = inl h; over = over; fit = fit }, tt);
+        loops = tt;
+        edges = λ m loops le ins. (record { away = pos_p; leaves = omega arith; reaches = omega arith; rises = inl h; over = over; fit = fit }, tt);
       }
 
   split_shaped : (place : Place) (t : Condition) (xs ys : List Stmt) → ShapedBy (sane_stmts v xs) (rules xs) → ShapedBy (sane_stmts v ys) (rules ys) →
@@ -236,13 +245,13 @@ module _ (v : ℕ) (few : v ≤ VARIABLES) where
           length-append (all_alike false falses) (b.bodies ++ all_alike false ends),
           length-append b.bodies (all_alike false ends),
         );
-        heads = each_join (λ l. 0 < l.head) a.loops b.loops f.heads r.heads;
+        loops = each_join (IsLoop v) a.loops b.loops f.loops r.loops;
         edges = λ m loops le ins.
-            each_join (IsUp v m loops) (tests p n trues) _ (tests_up m loops p n trues h (omega arith) (ways_few v t true ok.0))
+            each_join (IsUp v m loops) (tests p n trues) _ (tests_up m loops p n trues pos_p h (omega arith) (ways_few v t true ok.0) (ways_over v t true ok.0))
             (each_join (IsUp v m loops) a.edges _ (f.edges m loops (omega arith) (each_left (λ l. In l loops) a.loops b.loops ins))
-            (each_join (IsUp v m loops) (tests p a.next falses) _ (tests_up m loops p a.next falses (omega arith) (omega arith) (ways_few v t false ok.0))
+            (each_join (IsUp v m loops) (tests p a.next falses) _ (tests_up m loops p a.next falses pos_p (omega arith) (omega arith) (ways_few v t false ok.0) (ways_over v t false ok.0))
             (each_join (IsUp v m loops) b.edges ends (r.edges m loops (omega arith) (each_right (λ l. In l loops) a.loops b.loops ins))
-            (join_up m loops a.last b.next (omega arith) (omega arith), (join_up m loops b.last b.next (omega arith) (omega arith), tt)))));
+            (join_up m loops a.last b.next f.away (omega arith) (omega arith), (join_up m loops b.last b.next r.away (omega arith) (omega arith), tt)))));
       }
 
   loop_shaped : (place : Place) (t : Condition) (tried : List Compare) (xs : List Stmt) → ShapedBy (sane_stmts v xs) (rules xs) →
@@ -277,12 +286,12 @@ module _ (v : ℕ) (few : v ≤ VARIABLES) where
           length-append (all_alike true trues) (a.bodies ++ (false ∷ all_alike false falses)),
           length-append a.bodies (false ∷ all_alike false falses),
         );
-        heads = (pos_p, f.heads);
+        loops = (record { away = pos_p; over = each_over v tried ok2.0 }, f.loops);
         edges = λ m loops le ins.
-            each_join (IsUp v m loops) (tests p n trues) _ (tests_up m loops p n trues h (omega arith) (ways_few v t true ok.0))
+            each_join (IsUp v m loops) (tests p n trues) _ (tests_up m loops p n trues pos_p h (omega arith) (ways_few v t true ok.0) (ways_over v t true ok.0))
             (each_join (IsUp v m loops) a.edges _ (f.edges m loops (omega arith) ins.1) (
-              record { leaves = omega arith; reaches = omega arith; rises = inr (head_in loops (record { head = p; tried = rows_all tried }) ins.0); over = tt; fit = omega arith },
-              tests_up m loops p a.next falses (omega arith) (omega arith) (ways_few v t false ok.0),
+              record { away = f.away; leaves = omega arith; reaches = omega arith; rises = inr (head_in loops (record { head = p; tried = rows_all tried }) ins.0); over = tt; fit = omega arith },
+              tests_up m loops p a.next falses pos_p (omega arith) (omega arith) (ways_few v t false ok.0) (ways_over v t false ok.0),
             ));
       }
 
@@ -291,15 +300,15 @@ module _ (v : ℕ) (few : v ≤ VARIABLES) where
       (λ place u r. shaped_by _ (nat_lt u v && sane_right v r) _ (one place (assigned u r)) (fold-roll-Stmt Bool (sane_step v) (stmt.Set place u r)) (fold-roll-Stmt Rule rule_step (stmt.Set place u r))
       (λ p n s pos_p h.
       let ok = and_is (nat_lt u v) (sane_right v r) s in
-      one_shaped place (assigned u r) (below u v ok.0) (assigned_fits v u r few (below u v ok.0) ok.1) p n pos_p h))
+      one_shaped place (assigned u r) (below u v ok.0, right_over v r ok.1) (assigned_fits v u r few (below u v ok.0) ok.1) p n pos_p h))
       (λ place t xs ys hx hy. shaped_by _ (sane_test v t && (sane_stmts v xs && sane_stmts v ys)) _ (rule_step (stmt.If place t (map rule xs) (map rule ys)))
       (sane-if v place t xs ys) (rule-if place t xs ys) (split_shaped place t xs ys (list_shaped xs hx) (list_shaped ys hy)))
       (λ place t tried xs hx. shaped_by _ (sane_test v t && (sane_each v tried && sane_stmts v xs)) _ (rule_step (stmt.While place t tried (map rule xs)))
       (sane-while v place t tried xs) (rule-while place t tried xs) (loop_shaped place t tried xs (list_shaped xs hx)))
       (λ place cs. shaped_by _ (sane_all v cs) _ (one place (Check (rows_all cs))) (fold-roll-Stmt Bool (sane_step v) (stmt.Assert place cs)) (fold-roll-Stmt Rule rule_step (stmt.Assert place cs))
-      (λ p n s pos_p h. one_shaped place (Check (rows_all cs)) tt (ready_few cs (rows_all cs) refl (all_ready v cs s)) p n pos_p h))
+      (λ p n s pos_p h. one_shaped place (Check (rows_all cs)) (all_over v cs s) (ready_few cs (rows_all cs) refl (all_ready v cs s)) p n pos_p h))
       (λ place cs. shaped_by _ (sane_all v cs) _ (one place (Test (rows_all cs))) (fold-roll-Stmt Bool (sane_step v) (stmt.Assume place cs)) (fold-roll-Stmt Rule rule_step (stmt.Assume place cs))
-      (λ p n s pos_p h. one_shaped place (Test (rows_all cs)) tt (ready_few cs (rows_all cs) refl (all_ready v cs s)) p n pos_p h))
+      (λ p n s pos_p h. one_shaped place (Test (rows_all cs)) (all_over v cs s) (ready_few cs (rows_all cs) refl (all_ready v cs s)) p n pos_p h))
       x
 
   pub all_shaped : (ss : List Stmt) → ShapedBy (sane_stmts v ss) (rules ss)

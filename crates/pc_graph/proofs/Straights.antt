@@ -1,29 +1,26 @@
 -- The graph of a program without loops, assumptions and tests but `*`: its edges lead up, and all but assertions pass every state.
-use Rattle.std.proofs.Common.{◌≡◌, ℕ, ◌+◌, ◌<◌, List, [], ◌∷◌, ◌++◌, length, Bool, true, false, refl, sym, ap, subst, ◌∙◌, arith, map, inl, inr}
+use Rattle.std.proofs.Common.{◌≡◌, ℕ, ◌+◌, ◌<◌, List, [], ◌∷◌, ◌++◌, length, Bool, true, refl, sym, ap, subst, ◌∙◌, arith, map, inl, inr}
 use Rattle.std.specs.Prelude.{◌⊎◌, ◌&&◌}
 use Rattle.std.specs.List.{AllByRecursion as Each}
 use Rattle.pc_text.specs.declared.place.Place.{Place}
 use Rattle.pc_syntax.specs.Forms.{rows_all}
 use Rattle.pc_syntax.specs.Values.{State}
-use Rattle.pc_syntax.specs.declared.program.Program.{Program}
-use Rattle.pc_syntax.specs.declared.tree.Compare.{Compare}
-use Rattle.pc_syntax.specs.declared.tree.Right.{Right}
 use Rattle.pc_syntax.specs.declared.tree.Test.{Test as Condition}
 use Rattle.pc_syntax.specs.declared.tree.Test.TheVariants as test
-use Rattle.pc_syntax.specs.declared.tree.Stmt.{Stmt, roll-Stmt, fold-roll-Stmt}
+use Rattle.pc_syntax.specs.declared.tree.Stmt.{Stmt, fold-roll-Stmt}
 use Rattle.pc_syntax.specs.declared.tree.Stmt.TheOpen as stmt
 use Rattle.pc_syntax.proofs.Results.{and_is}
 use Rattle.pc_graph.specs.declared.draft.Loop.{Loop}
-use Rattle.pc_graph.specs.Arc.{What, Enter, Test, Set, Check, Arc, IsFit}
+use Rattle.pc_graph.specs.Arc.{What, Enter, Test, Set, Check, Arc}
 use Rattle.pc_graph.specs.Carry.{HasVariable}
 use Rattle.pc_graph.specs.Exact.{NoRows, StraightEdge}
 use Rattle.pc_graph.specs.Lists.{In}
 use Rattle.pc_graph.specs.Lowering.{Piece, Rule, one, join_edges, assigned, rule, rule_step, rules, made, graph}
-use Rattle.pc_graph.specs.Shape.{IsOver}
+use Rattle.pc_graph.specs.Shape.{WhatIsOver}
 use Rattle.pc_graph.specs.Straight.{is_any, straight_step, is_straight, are_straight, StraightGraphs}
 use Rattle.pc_graph.proofs.Cases.{by_cases}
 use Rattle.pc_graph.proofs.Graphs.{keeps, made_shape, points-length}
-use Rattle.pc_graph.proofs.Lists.{each_join, each_all, each_more}
+use Rattle.pc_graph.proofs.Lists.{each_join, each_all}
 use Rattle.pc_graph.proofs.Shapes.{HeadIn, IsUp}
 use Rattle.pc_graph.proofs.Unrolled.{rule-if}
 
@@ -84,10 +81,10 @@ all_plain : (ss : List Stmt) → PlainBy (are_straight ss) (rules ss)
 all_plain ss = list_plain ss (each_all PlainOne plain ss)
 
 -- a state with a value for each variable has one for that which an edge assigns
-has_variable : (v : ℕ) (w : What) (s : State) → IsOver v w → length s ≡ v → HasVariable w s
+has_variable : (v : ℕ) (w : What) (s : State) → WhatIsOver v w → length s ≡ v → HasVariable w s
 has_variable v (Enter params) s over long = tt
 has_variable v (Test rows) s over long = tt
-has_variable v (Set x form lo hi) s over long = omega arith
+has_variable v (Set x form lo hi) s over long = let lt = over.0 in omega arith
 has_variable v (Check rows) s over long = tt
 
 straight_edge : (v m : ℕ) (e : Arc) → IsUp v m [] e → NoRows e.what → StraightEdge m v e

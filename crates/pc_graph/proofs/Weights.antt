@@ -1,10 +1,9 @@
 -- The number of statements, by which the recursion over statements ends.
 use Rattle.std.proofs.Common.{◌≡◌, ℕ, ◌+◌, ◌<◌, ◌≤◌, zero, suc, List, [], ◌∷◌, length, sym, ap, ◌∙◌, arith, map, get_or}
 use Rattle.pc_text.specs.declared.place.Place.{Place}
-use Rattle.pc_syntax.specs.declared.tree.Compare.{Compare}
 use Rattle.pc_syntax.specs.declared.tree.Test.{Test}
 use Rattle.pc_syntax.specs.declared.tree.Stmt.{Stmt, Stmt-F, fold-Stmt, fold-roll-Stmt}
-use Rattle.pc_syntax.specs.declared.tree.Stmt.TheVariants.{If, While, rolls-If, rolls-While}
+use Rattle.pc_syntax.specs.declared.tree.Stmt.TheVariants.{If, rolls-If}
 use Rattle.pc_syntax.specs.declared.tree.Stmt.TheOpen as stmt
 
 abbrev pub total : List ℕ → ℕ
@@ -25,14 +24,8 @@ weight x = fold-Stmt ℕ weight_step x
 abbrev pub weights : List Stmt → ℕ
 weights xs = 1 + total (map weight xs)
 
-pub then_smaller : (x : Stmt) (p : Place) (t : Test) (xs ys zs : List Stmt) → x ≡ If p t xs ys → zs ≡ xs → weights zs < weight x
-then_smaller x p t xs ys zs e s = rw (s, e) (let w = ap weight (sym (rolls-If p t xs ys)) ∙ fold-roll-Stmt ℕ weight_step (stmt.If p t xs ys) in omega arith)
-
-pub else_smaller : (x : Stmt) (p : Place) (t : Test) (xs ys zs : List Stmt) → x ≡ If p t xs ys → zs ≡ ys → weights zs < weight x
-else_smaller x p t xs ys zs e s = rw (s, e) (let w = ap weight (sym (rolls-If p t xs ys)) ∙ fold-roll-Stmt ℕ weight_step (stmt.If p t xs ys) in omega arith)
-
-pub body_smaller : (x : Stmt) (p : Place) (t : Test) (tried : List Compare) (xs zs : List Stmt) → x ≡ While p t tried xs → zs ≡ xs → weights zs < weight x
-body_smaller x p t tried xs zs e s = rw (s, e) (let w = ap weight (sym (rolls-While p t tried xs)) ∙ fold-roll-Stmt ℕ weight_step (stmt.While p t tried xs) in omega arith)
+pub then_smaller : (p : Place) (t : Test) (xs ys : List Stmt) → weights xs < weight (If p t xs ys)
+then_smaller p t xs ys = let w = ap weight (sym (rolls-If p t xs ys)) ∙ fold-roll-Stmt ℕ weight_step (stmt.If p t xs ys) in omega arith
 
 weight_at : (xs : List Stmt) (i : ℕ) (x : Stmt) → i < length xs → weight (get_or xs i x) ≤ total (map weight xs)
 weight_at [] i x l = absurd (omega arith)

@@ -1,5 +1,5 @@
 -- Rows that are carried back over an edge, and what an edge owes.
-use Rattle.std.specs.Prelude.{ℕ, ◌<◌, List, [], ◌∷◌, ◌++◌, length}
+use Rattle.std.specs.Prelude.{◌<◌, List, [], ◌∷◌, ◌++◌, length}
 use Rattle.pc_rows.specs.Linear.{Linear, Meets, MeetsAll, first_of}
 use Rattle.pc_rows.specs.Substitution.{substituted, SubstituteFits}
 use Rattle.pc_syntax.specs.Machine.{end_of}

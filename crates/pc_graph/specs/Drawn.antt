@@ -1,9 +1,9 @@
 -- A graph in the making: what has been made so far, and what each part of a rule adds.
-use Rattle.std.specs.Prelude.{ℕ, ◌+◌, List, [], ◌∷◌, ◌++◌, Bool, true, false}
+use Rattle.std.specs.Prelude.{ℕ, ◌+◌, List, [], ◌∷◌, ◌++◌, Bool, false}
 use Rattle.pc_text.specs.declared.place.Place.{Place}
 use Rattle.pc_rows.specs.Linear.{Linear}
 use Rattle.pc_graph.specs.declared.draft.Loop.{Loop}
-use Rattle.pc_graph.specs.Arc.{What, Enter, Test, Arc, arc}
+use Rattle.pc_graph.specs.Arc.{Enter, Test, Arc, arc}
 use Rattle.pc_graph.specs.Lowering.{Piece, tests, all_alike}
 
 -- the present point, the number of the next one, and what there is, each list in order

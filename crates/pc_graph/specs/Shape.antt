@@ -1,18 +1,19 @@
--- The shape of a graph: how many points and edges it has, and where edges lead.
-use Rattle.std.specs.Prelude.{◌≡◌, ℕ, ◌+◌, ◌<◌, ◌≤◌, List, [], ◌∷◌, ◌⊎◌, Bool, true, false, length, Some, IfSome, slice_get}
+-- The shape of a graph: how many points and edges it has, where edges lead, and which variables they have.
+use Rattle.std.specs.Prelude.{◌≡◌, ◌≢◌, ℕ, ◌+◌, ◌<◌, ◌≤◌, List, [], ◌∷◌, ◌⊎◌, true, false, length, Some, IfSome, slice_get}
 use Rattle.std.specs.List.{AllByRecursion as Each}
+use Rattle.pc_rows.specs.Linear.{IsOver}
 use Rattle.pc_rows.specs.declared.row.TheConstants.{VARIABLES}
 use Rattle.pc_syntax.specs.declared.limits.TheConstants.{EDGES}
 use Rattle.pc_graph.specs.declared.point.PointInfo.{PointInfo}
-use Rattle.pc_graph.specs.Arc.{What, Enter, Test, Set, Check, Arc, arc, IsFit}
+use Rattle.pc_graph.specs.Arc.{What, Enter, Test, Set, Check, Arc, arc}
 use Rattle.pc_graph.specs.Flow.{Flow}
 
--- what an edge does to the variables is within their number
-abbrev pub IsOver : ℕ → What → Type 0
-IsOver variables (Enter params) = params ≤ variables
-IsOver variables (Set x form lo hi) = x < variables
-IsOver variables (Test rows) = Unit {0}
-IsOver variables (Check rows) = Unit {0}
+-- what an edge asks and does has no variable from number `variables` on: not in its rows, nor in its form, nor as what it assigns
+abbrev pub WhatIsOver : ℕ → What → Type 0
+WhatIsOver variables (Enter params) = params ≤ variables
+WhatIsOver variables (Test rows) = Each (IsOver variables) rows
+WhatIsOver variables (Set x form lo hi) = (x < variables) × IsOver variables form
+WhatIsOver variables (Check rows) = Each (IsOver variables) rows
 
 -- the point is the head of a loop
 abbrev pub IsHead : List PointInfo → ℕ → Type 0
@@ -23,7 +24,7 @@ pub record LeadsUp (points : List PointInfo) (variables : ℕ) (e : Arc) : Type 
   pub leaves : e.from < length points
   pub reaches : e.to < length points
   pub rises : (e.from < e.to) ⊎ IsHead points e.to
-  pub over : IsOver variables e.what
+  pub over : WhatIsOver variables e.what
 
 -- what every graph keeps
 pub record IsGraph (g : Flow) : Type 0 where
@@ -33,7 +34,19 @@ pub record IsGraph (g : Flow) : Type 0 where
   pub points : length g.points ≤ length g.edges + 1
   pub edges : length g.edges ≤ EDGES
   pub bodies : length g.bodies ≡ length g.edges
-  -- edge 0 leads from the entry to the start, and the entry is no head
+  -- what loops try is over the variables
+  pub tried : Each (λ point. Each (IsOver g.variables) point.tried) g.points
+  -- edge 0 leads from the entry to the start, no other edge leaves the entry, and the entry is no head
   pub enters : slice_get g.edges 0 ≡ Some (arc 0 1 (Enter g.params))
+  pub alone : Each (λ e. e.from ≡ 0 → e ≡ arc 0 1 (Enter g.params)) g.edges
   pub entry : IfSome (slice_get g.points 0) (λ point. point.head ≡ false)
   pub leads : Each (LeadsUp g.points g.variables) g.edges
+
+-- not both edges lead back to one point
+abbrev pub TurnsApart : Arc → Arc → Type 0
+TurnsApart e f = e.to ≤ e.from → f.to ≤ f.from → e.to ≢ f.to
+
+-- each head has one edge that leads back to it
+abbrev pub NoSharedHead : List Arc → Type 0
+NoSharedHead [] = Unit {0}
+NoSharedHead (e ∷ es) = Each (TurnsApart e) es × NoSharedHead es

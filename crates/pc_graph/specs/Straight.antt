@@ -1,5 +1,5 @@
 -- What graphs say of their programs, and of those without tests and loops.
-use Rattle.std.specs.Prelude.{◌≡◌, ℤ, List, [], ◌∷◌, Bool, true, false, ◌&&◌, map, length}
+use Rattle.std.specs.Prelude.{◌≡◌, ℤ, List, Bool, true, false, ◌&&◌, map, length}
 use Rattle.std.specs.List.{AllByRecursion as Each}
 use Rattle.pc_text.specs.declared.place.Place.{Place}
 use Rattle.pc_rows.specs.Linear.{MeetsAll}
@@ -13,12 +13,16 @@ use Rattle.pc_syntax.specs.declared.tree.Stmt.{Stmt, Stmt-F, fold-Stmt}
 use Rattle.pc_syntax.specs.declared.tree.Stmt.TheOpen as stmt
 use Rattle.pc_graph.specs.Exact.{Annotation, IsPaid, IsOwed, StraightEdge}
 use Rattle.pc_graph.specs.Lowering.{graph}
-use Rattle.pc_graph.specs.Shape.{IsGraph}
+use Rattle.pc_graph.specs.Shape.{IsGraph, NoSharedHead}
 use Rattle.pc_graph.specs.Walk.{IsEntry, entered}
 
 -- every graph of a program is one
 abbrev pub GraphsAreKept : Type 0
 GraphsAreKept = (p : Program) → IsGraph (graph p)
+
+-- no two loops of a program share a head
+abbrev pub LoopsHaveTheirHeads : Type 0
+LoopsHaveTheirHeads = (p : Program) → NoSharedHead (graph p).edges
 
 abbrev pub is_any : Test → Bool
 is_any test.Any = true

@@ -10,8 +10,8 @@ use pc_text::Place;
 use sqlite_items::Items;
 use std::marker::Model;
 
-/// Points and edges. Both are numbered, from 0 on: point 0 is the entry, from which edge 0 leads to point 1. Every other
-/// edge leads to a greater number, or back to the head of a loop.
+/// Points and edges. Both are numbered, from 0 on: point 0 is the entry, from which edge 0 alone leads, to point 1. Every
+/// other edge leads to a greater number, or back to the head of a loop. No row has a variable that the graph has not.
 #[derive(Drop)]
 pub struct Graph {
     params: u32,

@@ -2,7 +2,7 @@
 
 ghost use Rattle.pc_graph.specs.Carry.{CarryingIsExact, OwedIsEnough};
 ghost use Rattle.pc_graph.specs.Corresponds.{StepsCorrespond};
-ghost use Rattle.pc_graph.specs.Straight.{GraphsAreKept, StraightGraphs, PaidProgramsAreSafe, OwedIsViolated};
+ghost use Rattle.pc_graph.specs.Straight.{GraphsAreKept, LoopsHaveTheirHeads, StraightGraphs, PaidProgramsAreSafe, OwedIsViolated};
 ghost use Rattle.pc_graph.specs.Exact.{PaidIsSafe, BrokenHasWalk, OwedIsNeeded};
 
 /// A program and its graph take the same steps.
@@ -38,6 +38,11 @@ pub fn owed_is_needed()
 /// The graph of a program keeps what every graph keeps.
 pub fn graphs_are_kept()
     ensures { GraphsAreKept }
+{}
+
+/// No two loops of a program share a head.
+pub fn loops_have_their_heads()
+    ensures { LoopsHaveTheirHeads }
 {}
 
 /// Without loops, assumptions and tests but `*` each edge of a program's graph leads up, and every state passes it unless

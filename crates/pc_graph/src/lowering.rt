@@ -3,6 +3,7 @@
 ghost use Rattle.std.specs.Prelude.{◌≡◌, ◌<◌, ◌≤◌, ◌+◌, ◌^◌, OnOk, IfOk, true};
 ghost use Rattle.pc_rows.specs.declared.row.TheConstants.{VARIABLES};
 ghost use Rattle.pc_syntax.specs.Sane.{sane_stmt, sane_stmts, sane_test, sane_right};
+ghost use Rattle.pc_syntax.specs.declared.tree.Stmt.TheVariants.{If, While};
 ghost use Rattle.pc_graph.specs.Arc.{IsFit};
 ghost use Rattle.pc_graph.specs.Drawn.{extended, branched, entered};
 ghost use Rattle.pc_graph.specs.Lowering.{rule, rules, assigned, low_end, high_end, graph};
@@ -13,7 +14,7 @@ use crate::draft::Draft;
 use crate::graph::Graph;
 use crate::what::What;
 use pc_grammar::Choice;
-use pc_syntax::{Bound, Program, Right, Stmt, Test, form_of, rows_of};
+use pc_syntax::{Bound, Compare, Program, Right, Stmt, Test, form_of, rows_of};
 use pc_text::{NoMemory, Place};
 use std::alloc::Global;
 
@@ -43,57 +44,77 @@ fn lower_stmt(alloc: Global, n: u32, s: &Stmt, draft: &mut Draft) -> Result<(), 
             test,
             then_part,
             else_part,
-        } => {
-            let p = draft.at();
-            lower_side(
-                alloc,
-                n,
-                then_part.as_slice(),
-                p,
-                *place,
-                test,
-                true,
-                false,
-                draft,
-            )?;
-            let t = draft.at();
-            lower_side(
-                alloc,
-                n,
-                else_part.as_slice(),
-                p,
-                *place,
-                test,
-                false,
-                false,
-                draft,
-            )?;
-            draft.join(alloc, *place, t)
-        }
+        } => lower_if(
+            alloc,
+            n,
+            *place,
+            test,
+            then_part.as_slice(),
+            else_part.as_slice(),
+            draft,
+        ),
         Stmt::While {
             place,
             test,
             tried,
             body,
-        } => {
-            let p = draft.at();
-            let rows = rows_of(alloc, tried.as_slice())?;
-            draft.head(rows)?;
-            lower_side(
-                alloc,
-                n,
-                body.as_slice(),
-                p,
-                *place,
-                test,
-                true,
-                true,
-                draft,
-            )?;
-            draft.turn(alloc, p)?;
-            draft.branch(alloc, n, p, *place, test, false, false)
-        }
+        } => lower_while(
+            alloc,
+            n,
+            *place,
+            test,
+            tried.as_slice(),
+            body.as_slice(),
+            draft,
+        ),
     }
+}
+
+/// The two sides of an `if`, and the point after them.
+#[cycle(lowering)]
+fn lower_if(
+    alloc: Global,
+    n: u32,
+    place: Place,
+    test: &Test,
+    then_part: &[Stmt],
+    else_part: &[Stmt],
+    draft: &mut Draft,
+) -> Result<(), NoMemory>
+    requires few { n ≤ VARIABLES }
+    requires sane { sane_stmt n (If place test.now then_part.now else_part.now) ≡ true }
+    requires room { (rule (If place test.now then_part.now else_part.now) draft.old.at draft.old.next).next < 2 ^ 32 }
+    ensures { OnOk result (draft.new ≡ extended draft.old (rule (If place test.now then_part.now else_part.now) draft.old.at draft.old.next)) }
+{
+    let p = draft.at();
+    lower_side(alloc, n, then_part, p, place, test, true, false, draft)?;
+    let t = draft.at();
+    lower_side(alloc, n, else_part, p, place, test, false, false, draft)?;
+    draft.join(alloc, place, t)
+}
+
+/// A `while`: its head is the present point, its block leads back there, and its exit to the next present point.
+#[cycle(lowering)]
+fn lower_while(
+    alloc: Global,
+    n: u32,
+    place: Place,
+    test: &Test,
+    tried: &[Compare],
+    block: &[Stmt],
+    draft: &mut Draft,
+) -> Result<(), NoMemory>
+    requires few { n ≤ VARIABLES }
+    requires sane { sane_stmt n (While place test.now tried.now block.now) ≡ true }
+    requires room { (rule (While place test.now tried.now block.now) draft.old.at draft.old.next).next < 2 ^ 32 }
+    ensures { OnOk result (draft.new ≡ extended draft.old (rule (While place test.now tried.now block.now) draft.old.at draft.old.next)) }
+{
+    let p = draft.at();
+    let rows = rows_of(alloc, tried)?;
+    draft.head(rows)?;
+    lower_side(alloc, n, block, p, place, test, true, true, draft)?;
+    draft.turn(alloc, p)?;
+    draft.branch(alloc, n, p, place, test, false, false)
 }
 
 /// The edges of one side of a test, from `p` to a new point, and the block from there.

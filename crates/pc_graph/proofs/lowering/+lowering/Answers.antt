@@ -1,11 +1,10 @@
-use Rattle.std.proofs.Common.{◌≡◌, ◌∙◌, ◌+◌, ◌<◌, ap, subst, arith}
+use Rattle.std.proofs.Common.{◌≡◌, ◌+◌, ◌<◌, subst, arith}
 use Rattle.std.proofs.lemmas.Result.{on_ok_weaker}
 use Rattle.pc_syntax.specs.Forms.{rows_all}
-use Rattle.pc_syntax.specs.Sane.{sane_stmts}
-use Rattle.pc_graph.proofs.Drawing.{if_done, while_done, then_room, else_room, join_room, body_room, doing_here, doing_next}
+use Rattle.pc_graph.proofs.Drawing.{if_done, while_done, then_room, doing_here, doing_next}
 use Rattle.pc_graph.proofs.Growing.{list_grows}
 use Rattle.pc_graph.proofs.Ready.{sane_slice, ready_few, assert_ready, assume_ready, if_ready, while_ready}
-use Rattle.pc_graph.proofs.Weights.{weight, weights, then_smaller, else_smaller, body_smaller, item_smaller}
+use Rattle.pc_graph.proofs.Weights.{weight, weights, then_smaller, item_smaller}
 use Rattle.pc_graph.proofs.lowering.+lowering.Goals as goal
 
 pub lower_side-branch-draft-requires-clause-room : goal.lower_side-branch-draft-requires-clause-room
@@ -34,68 +33,6 @@ lower_stmt-link-requires-in-Assume-clause-fit t c =
     ready_few c.in-Assume.all c.in_ok-rows-in-Assume.rows
     (subst (λ cs. c.in_ok-rows-in-Assume.rows ≡ rows_all cs) c.as_slice-in-Assume.ensures c.in_ok-rows-in-Assume.ensures) ready
 
-pub lower_stmt-rows_of-requires-in-While-clause-sane : goal.lower_stmt-rows_of-requires-in-While-clause-sane
-lower_stmt-rows_of-requires-in-While-clause-sane t c =
-    let w = c.in-While in
-    sane_slice w.tried _ c.as_slice-in-While.ensures (while_ready c.args.n c.args.s.now w.place w.test w.tried w.body w.is c.requires.sane).1
-
-pub lower_stmt-branch-draft-requires-clause-sane : goal.lower_stmt-branch-draft-requires-clause-sane
-lower_stmt-branch-draft-requires-clause-sane t c =
-    let w = c.in-While in
-    (while_ready c.args.n c.args.s.now w.place w.test w.tried w.body w.is c.requires.sane).0
-
-pub lower_stmt-returns-in_ok-lower_side-in-If-2 : goal.lower_stmt-returns-in_ok-lower_side-in-If-2
-lower_stmt-returns-in_ok-lower_side-in-If-2 t c =
-    on_ok_weaker c.join.result (λ h. if_done c.args.s.now c.in-If.place _ _ _ _ _ c.args.draft.now _ _ _ _ _ c.in-If.is c.as_slice-in-If.ensures c.as_slice-in-If-2.ensures
-    c.at-p.ensures c.in_ok-lower_side-in-If.ensures c.at-t.ensures c.in_ok-lower_side-in-If-2.ensures h) c.join.ensures
-
-pub lower_stmt-returns-in_ok-turn-in-While : goal.lower_stmt-returns-in_ok-turn-in-While
-lower_stmt-returns-in_ok-turn-in-While t c =
-    let rows = subst (λ cs. c.in_ok-rows-in-While.rows ≡ rows_all cs) c.as_slice-in-While.ensures c.in_ok-rows-in-While.ensures in
-    on_ok_weaker c.branch-draft.result (λ h. while_done c.args.s.now c.in-While.place _ _ _ _ _ c.args.draft.now _ _ _ _ _ c.in-While.is c.as_slice-in-While-2.ensures
-    c.at-p-in-While.ensures rows c.in_ok-head-in-While.ensures c.in_ok-lower_side-in-While.ensures c.in_ok-turn-in-While.ensures h) c.branch-draft.ensures
-
-pub lower_stmt-lower_side-requires : goal.lower_stmt-lower_side-requires
-lower_stmt-lower_side-requires t c =
-    let w = c.in-If in
-    let smaller : weights c.as_slice-in-If.result.now < weight c.args.s.now = then_smaller _ _ _ _ _ _ w.is c.as_slice-in-If.ensures in
-    let ready = if_ready c.args.n c.args.s.now w.place w.test w.then_part w.else_part w.is c.requires.sane in (
-      omega arith,
-      (
-        c.requires.few,
-        (
-          ap (sane_stmts c.args.n) c.as_slice-in-If.ensures ∙ ready.1,
-          (
-            ready.0,
-            then_room c.args.s.now w.place w.test w.then_part w.else_part _ c.args.draft.now w.is c.as_slice-in-If.ensures c.requires.room,
-          ),
-        ),
-      ),
-    )
-
-pub lower_stmt-lower_side-requires-in-If : goal.lower_stmt-lower_side-requires-in-If
-lower_stmt-lower_side-requires-in-If t c =
-    let w = c.in-If in
-    let smaller : weights c.as_slice-in-If-2.result.now < weight c.args.s.now = else_smaller _ _ _ _ _ _ w.is c.as_slice-in-If-2.ensures in
-    let ready = if_ready c.args.n c.args.s.now w.place w.test w.then_part w.else_part w.is c.requires.sane in
-    let room = else_room c.args.s.now w.place w.test w.then_part w.else_part _ _ c.args.draft.now _ _ w.is c.as_slice-in-If.ensures c.as_slice-in-If-2.ensures
-    c.in_ok-lower_side-in-If.ensures c.requires.room in
-    (omega arith, (c.requires.few, (ap (sane_stmts c.args.n) c.as_slice-in-If-2.ensures ∙ ready.2, (ready.0, omega arith))))
-
-pub lower_stmt-join-requires : goal.lower_stmt-join-requires
-lower_stmt-join-requires t c =
-    let w = c.in-If in
-    join_room c.args.s.now w.place w.test w.then_part w.else_part _ _ c.args.draft.now _ _ _ w.is c.as_slice-in-If.ensures c.as_slice-in-If-2.ensures
-    c.in_ok-lower_side-in-If.ensures c.in_ok-lower_side-in-If-2.ensures c.requires.room
-
-pub lower_stmt-lower_side-requires-in-While : goal.lower_stmt-lower_side-requires-in-While
-lower_stmt-lower_side-requires-in-While t c =
-    let w = c.in-While in
-    let smaller : weights c.as_slice-in-While-2.result.now < weight c.args.s.now = body_smaller _ _ _ _ _ _ w.is c.as_slice-in-While-2.ensures in
-    let ready = while_ready c.args.n c.args.s.now w.place w.test w.tried w.body w.is c.requires.sane in
-    let room = body_room c.args.s.now w.place w.test w.tried w.body _ _ c.args.draft.now _ w.is c.as_slice-in-While-2.ensures c.in_ok-head-in-While.ensures c.requires.room in
-    (omega arith, (c.requires.few, (ap (sane_stmts c.args.n) c.as_slice-in-While-2.ensures ∙ ready.2, (ready.0, omega arith))))
-
 pub lower_list-lower_stmt-requires : goal.lower_list-lower_stmt-requires
 lower_list-lower_stmt-requires t c =
     let smaller : weight c.s-item.result < weights c.args.list.now = item_smaller c.args.list.now c.loop-s.s-index c.s-item.result c.loop-s-test.true c.s-item.is in
@@ -105,3 +42,30 @@ lower_list-lower_stmt-requires t c =
 pub lower_list-loop-s-preserved : goal.lower_list-loop-s-preserved
 lower_list-loop-s-preserved t c =
     doing_next c.args.n c.args.list.now c.loop-s.s-index c.s-item.result c.args.draft.now c.loop-s.draft _ c.loop-s-test.true c.s-item.is c.loop-s.invariant c.in_ok-lower_stmt.ensures
+
+pub lower_if-lower_side-requires : goal.lower_if-lower_side-requires
+lower_if-lower_side-requires t c =
+    let a = c.args in
+    let xs = a.then_part.now in
+    let ys = a.else_part.now in
+    let smaller = then_smaller a.place a.test.now xs ys in
+    let ready = if_ready a.n a.place a.test.now xs ys c.requires.sane in
+    (omega arith, (c.requires.few, (ready.1.0, (ready.0, then_room a.place a.test.now xs ys a.draft.now c.requires.room))))
+
+pub lower_if-returns : goal.lower_if-returns
+lower_if-returns t c =
+    let a = c.args in
+    on_ok_weaker c.join.result (λ h. if_done a.place a.test.now a.then_part.now a.else_part.now a.draft.now _ _ _ _ _
+    c.at-p.ensures c.in_ok-lower_side.ensures c.at-t.ensures c.in_ok-lower_side-2.ensures h) c.join.ensures
+
+pub lower_while-rows_of-requires-clause-sane : goal.lower_while-rows_of-requires-clause-sane
+lower_while-rows_of-requires-clause-sane t c = let a = c.args in (while_ready a.n a.place a.test.now a.tried.now a.block.now c.requires.sane).1.0.1
+
+pub lower_while-branch-draft-requires-clause-sane : goal.lower_while-branch-draft-requires-clause-sane
+lower_while-branch-draft-requires-clause-sane t c = let a = c.args in (while_ready a.n a.place a.test.now a.tried.now a.block.now c.requires.sane).0
+
+pub lower_while-returns : goal.lower_while-returns
+lower_while-returns t c =
+    let a = c.args in
+    on_ok_weaker c.branch-draft.result (λ h. while_done a.place a.test.now a.tried.now a.block.now _ a.draft.now _ _ _ _ _
+    c.at-p.ensures c.in_ok-rows.ensures c.in_ok-head.ensures c.in_ok-lower_side.ensures c.in_ok-turn.ensures h) c.branch-draft.ensures

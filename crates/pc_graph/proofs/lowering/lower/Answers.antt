@@ -1,6 +1,5 @@
-use Rattle.std.proofs.Common.{◌≡◌, ◌<◌, ap, sym, subst, length, List}
+use Rattle.std.proofs.Common.{◌≡◌, ◌<◌, sym, subst, length, List}
 use Rattle.pc_text.specs.declared.place.Place.{Place}
-use Rattle.pc_graph.specs.Flow.{Flow}
 use Rattle.pc_graph.specs.Shape.{IsGraph}
 use Rattle.pc_graph.proofs.Graphs.{room, places_few, graph_made, graph_kept}
 use Rattle.pc_graph.proofs.lowering.lower.Goals as goal
