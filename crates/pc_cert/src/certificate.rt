@@ -4,6 +4,15 @@ use pc_rows::{Proof, Rows};
 use sqlite_items::Items;
 use std::marker::Model;
 
+/// The most edges of a graph that has a certificate.
+pub const EDGES: u32 = 1024;
+
+/// The most points of a graph that has a certificate: those of its edges' ends, and one more.
+pub const POINTS: u32 = EDGES + 1;
+
+/// The most alternatives of a certificate that is read.
+pub const ALTERNATIVES: usize = 16;
+
 /// An alternative: rows for each point, and for each edge the proofs of the rows that it owes, in
 /// the order in which it owes them. Points and edges are numbered as in the graph.
 #[derive(Drop)]

@@ -8,5 +8,5 @@ mod certificate;
 mod row;
 
 pub use alternatives::{condition, push_rows, text_determines_condition};
-pub use certificate::{Annotated, Certificate};
+pub use certificate::{ALTERNATIVES, Annotated, Certificate, EDGES, POINTS};
 pub use row::push_row;
