@@ -1,0 +1,102 @@
+-- A proof has no flaw exactly where it proves its row.
+use Rattle.std.proofs.Common.{◌≡◌, ℕ, ◌+◌, ◌<◌, ltb, ℤ, pos, negsuc, ◌≤ℤ◌, List, [], ◌∷◌, Bool, true, false, cond, length, refl, arith, Option, Some, None}
+use Rattle.std.specs.Prelude.{◌&&◌, not, int_le, nat_lt}
+use Rattle.std.specs.List.{AllByRecursion, list_all, position_from}
+use Rattle.std.proofs.lemmas.Bool.{ltb-true, lt-ltb}
+use Rattle.std.proofs.lemmas.Bool.Decides.{nat_tests}
+use Rattle.std.proofs.lemmas.Int.{ints}
+use Rattle.pc_rows.specs.declared.proof.Part.{Part}
+use Rattle.pc_rows.specs.Linear.{Linear, is_zero, IsNumber}
+use Rattle.pc_rows.specs.Evidence.{Proof}
+use Rattle.pc_rows.specs.Shows.{Shows, total, TotalFits}
+use Rattle.pc_rows.proofs.Lists.{zero_is}
+use Rattle.pc_rows.proofs.Ranges.{and_is}
+use Rattle.pc_graph.specs.declared.what.What.{What}
+use Rattle.pc_graph.specs.Carry.{back}
+use Rattle.pc_replay.specs.declared.flaw.Flaw.{Flaw}
+use Rattle.pc_replay.specs.declared.flaw.Flaw.TheVariants.{Past, Negative, Index, Left, NotBelow}
+use Rattle.pc_replay.specs.Ranges.{back_fits, total_fits}
+use Rattle.pc_replay.specs.Flaws.{needs, is_signed, names_premises, flaw_by, flaw_of_total, flaw, row_flaw}
+use Rattle.pc_replay.specs.Accepts.{Proves, RowProved}
+use Rattle.pc_replay.specs.Laws.{FlawsAreMeant}
+use Rattle.pc_replay.proofs.Alls.{both, each_if, if_each, each_more, none_passes, passes_none, not_false, true_not, zero_test}
+use Rattle.pc_replay.proofs.Fitting.{back_in, in_back, total_in, in_total}
+
+-- what is needed holds, and there is nothing else
+needed : (b : Bool) (f : Flaw) (rest : Option Flaw) → needs b (Some f) rest ≡ None → (b ≡ true) × (rest ≡ None)
+needed true f rest h = (refl, h)
+needed false f rest h = absurd (cc)
+
+none_lacks : (b : Bool) (f : Flaw) (rest : Option Flaw) → b ≡ true → rest ≡ None → needs b (Some f) rest ≡ None
+none_lacks b f rest h g = rw (h, g) refl
+
+at_least_if : (c : ℤ) → int_le (pos 0) c ≡ true → pos 0 ≤ℤ c
+at_least_if c h = grind (arith, ints)
+
+if_at_least : (c : ℤ) → pos 0 ≤ℤ c → int_le (pos 0) c ≡ true
+if_at_least c h = grind (arith, ints)
+
+below_if : (c : ℤ) → not (int_le (pos 0) c) ≡ true → c ≤ℤ negsuc 0
+below_if c h = grind (arith, ints)
+
+if_below : (c : ℤ) → c ≤ℤ negsuc 0 → not (int_le (pos 0) c) ≡ true
+if_below c h = grind (arith, ints)
+
+total_if_by : (o : Option ℕ) (b : Bool) → flaw_by o b ≡ None → (o ≡ None) × (b ≡ true)
+total_if_by None true h = (refl, refl)
+total_if_by None false h = absurd (cc)
+total_if_by (Some v) b h = absurd (cc)
+
+total_if : (r : Linear) → flaw_of_total r ≡ None → IsNumber r × (r.constant ≤ℤ negsuc 0)
+total_if r h =
+    let g = total_if_by (position_from (λ c. not (is_zero c)) 0 r.coefficients) (not (int_le (pos 0) r.constant)) h in (
+      each_more (λ c. not (is_zero c) ≡ false) (λ c. c ≡ pos 0) (λ c e. zero_is c (not_false (is_zero c) e)) r.coefficients (none_passes (λ c. not (is_zero c)) 0 r.coefficients g.0),
+      below_if r.constant g.1,
+    )
+
+if_total : (r : Linear) → IsNumber r → r.constant ≤ℤ negsuc 0 → flaw_of_total r ≡ None
+if_total r h g =
+    rw (passes_none (λ c. not (is_zero c)) 0 r.coefficients (each_more (λ c. c ≡ pos 0) (λ c. not (is_zero c) ≡ false) (λ c e. true_not (is_zero c) (zero_test c e)) r.coefficients h), if_below r.constant g)
+    refl
+
+proves_if : (premises : List Linear) (goal : Linear) (p : Proof) → flaw premises goal p ≡ None → Proves premises goal p
+proves_if premises goal p h =
+    let of_total = flaw_of_total (total premises goal p) in
+    let in_range = needs (total_fits premises goal p) (Some Past) of_total in
+    let named = needs (names_premises (length premises) p) (Some Index) in_range in
+    let signed = needed (is_signed p) Negative named h in
+    let names = needed (names_premises (length premises) p) Index in_range signed.1 in
+    let fits = needed (total_fits premises goal p) Past of_total names.1 in
+    let signs = and_is (list_all (λ q. int_le (pos 0) q.multiplier) p.parts) (int_le (pos 0) p.goal) signed.0 in
+    let left = total_if (total premises goal p) fits.1 in
+    record {
+      shows = record {
+        goal_multiplier = at_least_if p.goal signs.1;
+        multipliers = each_if (λ (q : Part). int_le (pos 0) q.multiplier) (λ q. pos 0 ≤ℤ q.multiplier) (λ q. at_least_if q.multiplier) p.parts signs.0;
+        indices = each_if (λ (q : Part). nat_lt q.index (length premises)) (λ q. q.index < length premises) (λ q. ltb-true q.index (length premises)) p.parts names.0;
+        left = left.0;
+        below = left.1;
+      };
+      fits = total_in premises goal p fits.0;
+    }
+
+if_proves : (premises : List Linear) (goal : Linear) (p : Proof) → Proves premises goal p → flaw premises goal p ≡ None
+if_proves premises goal p h =
+    let of_total = flaw_of_total (total premises goal p) in
+    let in_range = needs (total_fits premises goal p) (Some Past) of_total in
+    let named = needs (names_premises (length premises) p) (Some Index) in_range in
+    none_lacks (is_signed p) Negative named
+    (both _ _
+      (if_each (λ (q : Part). int_le (pos 0) q.multiplier) (λ q. pos 0 ≤ℤ q.multiplier) (λ q. if_at_least q.multiplier) p.parts h.shows.multipliers)
+      (if_at_least p.goal h.shows.goal_multiplier))
+    (none_lacks (names_premises (length premises) p) Index in_range
+      (if_each (λ (q : Part). nat_lt q.index (length premises)) (λ q. q.index < length premises) (λ q. lt-ltb q.index (length premises)) p.parts h.shows.indices)
+      (none_lacks (total_fits premises goal p) Past of_total (in_total premises goal p h.fits) (if_total (total premises goal p) h.shows.left h.shows.below)))
+
+pub flaws_are_meant : FlawsAreMeant
+flaws_are_meant w premises r p = (
+  λ h.
+  let g = needed (back_fits w r) Past (flaw premises (back w r) p) h in
+  record { fits = back_in w r g.0; proves = proves_if premises (back w r) p g.1 },
+  λ h. none_lacks (back_fits w r) Past (flaw premises (back w r) p) (in_back w r h.fits) (if_proves premises (back w r) p h.proves),
+)

@@ -1,0 +1,6 @@
+pub mod Alls
+pub mod Fitting
+pub mod Flawless
+pub mod Shaped
+pub mod Ruled
+pub mod Sound

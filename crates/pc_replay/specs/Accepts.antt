@@ -1,0 +1,40 @@
+-- Certificates in which nothing is wrong.
+use Rattle.std.specs.Prelude.{◌≡◌, List, length}
+use Rattle.std.specs.List.{AllByRecursion, zip}
+use Rattle.pc_rows.specs.Linear.{Linear, IsOver}
+use Rattle.pc_rows.specs.Evidence.{Proof}
+use Rattle.pc_rows.specs.Shows.{Shows, TotalFits}
+use Rattle.pc_graph.specs.declared.what.What.{What}
+use Rattle.pc_graph.specs.Arc.{Arc}
+use Rattle.pc_graph.specs.Carry.{BackFits, back, owes}
+use Rattle.pc_graph.specs.Flow.{Flow}
+use Rattle.pc_cert.specs.declared.certificate.Annotated.{Annotated}
+use Rattle.pc_cert.specs.Certificate.{Certificate}
+use Rattle.pc_replay.specs.Flaws.{asked}
+use Rattle.pc_replay.specs.Rule.{rows_at, premises}
+use Rattle.pc_replay.specs.Shape.{HasShape}
+
+-- a proof shows the goal from the premises, and all that is computed for its total is in range
+pub record Proves (premises : List Linear) (goal : Linear) (p : Proof) : Type 0 where
+  pub shows : Shows premises goal p
+  pub fits : TotalFits premises goal p
+
+-- a row is carried back over the edge in range, and the proof shows what it becomes
+pub record RowProved (w : What) (premises : List Linear) (r : Linear) (p : Proof) : Type 0 where
+  pub fits : BackFits w r
+  pub proves : Proves premises (back w r) p
+
+-- an edge has a proof for each row that it owes, from the rows of its source and of its test
+pub record EdgeProved (a : Annotated) (e : Arc) (proofs : List Proof) : Type 0 where
+  pub count : length proofs ≡ length (owes e.what (rows_at a e.to))
+  pub each : AllByRecursion (λ x. RowProved e.what (premises a e) x.0 x.1) (zip (asked e.what (rows_at a e.to)) proofs)
+
+-- the rows of the entry are over the parameters, and each edge is proved
+pub record AlternativeProved (g : Flow) (a : Annotated) : Type 0 where
+  pub entry : AllByRecursion (IsOver g.params) (rows_at a 0)
+  pub edges : AllByRecursion (λ x. EdgeProved a x.0 x.1) (zip g.edges a.proofs)
+
+-- a certificate is right for a graph
+pub record Accepts (g : Flow) (c : Certificate) : Type 0 where
+  pub shape : HasShape g c
+  pub each : AllByRecursion (AlternativeProved g) c.alternatives

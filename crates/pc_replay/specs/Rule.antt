@@ -1,0 +1,70 @@
+-- The rule of the replayer: the first refusal, in its order.
+use Rattle.std.specs.Prelude.{◌==◌, ℕ, ◌+◌, List, [], ◌∷◌, ◌++◌, length, slice_index_or, Option, Some, None}
+use Rattle.std.specs.List.{zip}
+use Rattle.pc_rows.specs.Linear.{Linear}
+use Rattle.pc_rows.specs.Evidence.{Proof}
+use Rattle.pc_graph.specs.declared.what.What.{What}
+use Rattle.pc_graph.specs.Arc.{Arc}
+use Rattle.pc_graph.specs.Carry.{owes, test_rows}
+use Rattle.pc_graph.specs.Flow.{Flow}
+use Rattle.pc_cert.specs.declared.certificate.Annotated.{Annotated}
+use Rattle.pc_cert.specs.Certificate.{Certificate}
+use Rattle.pc_replay.specs.declared.flaw.Flaw.{Flaw}
+use Rattle.pc_replay.specs.declared.flaw.Flaw.TheVariants as flaw
+use Rattle.pc_replay.specs.declared.ruling.Ruling.{Ruling}
+use Rattle.pc_replay.specs.declared.ruling.Ruling.TheVariants as answer
+use Rattle.pc_replay.specs.Shape.{first_beyond, has_shape}
+use Rattle.pc_replay.specs.Flaws.{needs, asked, row_flaw}
+
+-- the rows of a point
+abbrev pub rows_at : Annotated → ℕ → List Linear
+rows_at a p = slice_index_or a.rows p []
+
+-- how a flaw at row k of edge e of alternative a is told
+abbrev pub told : ℕ → ℕ → ℕ → Flaw → Ruling
+told a e k flaw.Past = answer.Past a e k
+told a e k flaw.Negative = answer.Negative a e k
+told a e k flaw.Index = answer.Index a e k
+told a e k (flaw.Left v) = answer.Left a e k v
+told a e k flaw.NotBelow = answer.NotBelow a e k
+
+-- the first ruling that refuses, of two
+abbrev pub first_of : Ruling → Ruling → Ruling
+first_of answer.Accepted r = r
+first_of answer.Shape r = answer.Shape
+first_of (answer.Entry a k) r = answer.Entry a k
+first_of (answer.Count a e) r = answer.Count a e
+first_of (answer.Negative a e k) r = answer.Negative a e k
+first_of (answer.Index a e k) r = answer.Index a e k
+first_of (answer.Past a e k) r = answer.Past a e k
+first_of (answer.NotBelow a e k) r = answer.NotBelow a e k
+first_of (answer.Left a e k v) r = answer.Left a e k v
+
+-- the first ruling that refuses, of those on the items, which are numbered from n on
+abbrev pub first_ruling : {A : Type 0} → (ℕ → A → Ruling) → ℕ → List A → Ruling
+first_ruling f n [] = answer.Accepted
+first_ruling f n (x ∷ xs) = first_of (f n x) (first_ruling f (n + 1) xs)
+
+-- none, or a refusal made of what was found
+abbrev pub refusal : {A : Type 0} → (A → Ruling) → Option A → Ruling
+refusal f None = answer.Accepted
+refusal f (Some x) = f x
+
+-- the premises of an edge: the rows of its source, and then those of its test
+abbrev pub premises : Annotated → Arc → List Linear
+premises a e = rows_at a e.from ++ test_rows e.what
+
+-- on an edge with its proofs: as many proofs as it owes rows, and then each row in order with its proof
+abbrev pub edge_ruling : ℕ → Annotated → ℕ → Arc × List Proof → Ruling
+edge_ruling n a i x =
+    needs (length x.1 == length (owes x.0.what (rows_at a x.0.to))) (answer.Count n i) (
+    first_ruling (λ k y. refusal (told n i k) (row_flaw x.0.what (premises a x.0) y.0 y.1)) 0 (zip (asked x.0.what (rows_at a x.0.to)) x.1))
+
+-- on an alternative: the rows of the entry are over the parameters, and then each edge in order
+abbrev pub alternative_ruling : Flow → ℕ → Annotated → Ruling
+alternative_ruling g n a =
+    first_of (refusal (answer.Entry n) (first_beyond g.params (rows_at a 0))) (first_ruling (edge_ruling n a) 0 (zip g.edges a.proofs))
+
+-- on a certificate: its shape, and then each alternative in order
+abbrev pub ruling : Flow → Certificate → Ruling
+ruling g c = needs (has_shape g c) answer.Shape (first_ruling (alternative_ruling g) 0 c.alternatives)

@@ -1,0 +1,63 @@
+//! Whether a certificate has the shape that its graph asks for.
+
+ghost use Rattle.std.specs.Prelude.{◌≡◌};
+ghost use Rattle.pc_replay.specs.Shape.{is_over, first_beyond, are_over, is_shaped, has_shape};
+
+use pc_cert::{Annotated, Certificate};
+use pc_graph::Graph;
+use pc_rows::{Row, Rows, VARIABLES};
+
+/// Whether no coefficient from variable `n` on is other than 0.
+fn is_over(n: u32, r: &Row) -> bool
+    ensures { result ≡ is_over n r.now }
+{
+    for v in n..VARIABLES as u32 {
+        if r.coefficient(v) != 0 {
+            return false;
+        }
+    }
+    true
+}
+
+/// The first row with a variable from number `n` on.
+pub fn first_beyond(n: u32, rows: &Rows) -> Option<u32>
+    ensures { result ≡ first_beyond n rows.now }
+{
+    for i in 0..rows.len() {
+        if !is_over(n, rows.at(i)) {
+            return Some(i as u32);
+        }
+    }
+    None
+}
+
+/// Whether no row has a variable from number `n` on.
+fn are_over(n: u32, rows: &Rows) -> bool
+    ensures { result ≡ are_over n rows.now }
+{
+    first_beyond(n, rows).is_none()
+}
+
+/// Whether an alternative has rows for each point and proofs for each edge, and no row has a
+/// variable that the certificate lacks.
+fn is_shaped(points: u32, edges: u32, variables: u32, a: &Annotated) -> bool
+    ensures { result ≡ is_shaped points edges variables a.now }
+{
+    a.rows.len() == points as usize
+        && a.proofs.len() == edges as usize
+        && a.rows.as_slice().iter().all(|rows| are_over(variables, rows))
+}
+
+/// Whether a certificate is for a graph with these points, edges and variables, and each
+/// alternative has its lists.
+pub fn has_shape(g: &Graph, c: &Certificate) -> bool
+    ensures { result ≡ has_shape g.now c.now }
+{
+    c.points == g.points()
+        && c.edges == g.edges()
+        && c.variables == g.variables()
+        && c.alternatives
+            .as_slice()
+            .iter()
+            .all(|a| is_shaped(c.points, c.edges, c.variables, a))
+}

@@ -1,0 +1,367 @@
+//! Certificates, by example. A row is given by its constant and its coefficients, a proof by the
+//! multiplier of its goal and the indices and multipliers of its premises.
+
+ghost use Rattle.std.specs.Prelude.{◌≡◌, ◌≢◌, ◌<◌, pos, IfSome};
+ghost use Rattle.pc_rows.specs.declared.system.TheConstants.{PREMISES};
+
+use crate::replay::accept;
+use crate::ruling::Ruling;
+use pc_cert::{Annotated, Certificate};
+use pc_graph::{Graph, lower};
+use pc_rows::{Number, PREMISES, Part, Parts, Proof, Row, Rows, RowsFault};
+use pc_syntax::read;
+use sqlite_items::Items;
+use std::alloc::Global;
+use std::test::Fail;
+
+type Numbers = [i64; 3];
+type Multipliers = (i64, &'static [(u32, i128)]);
+
+const STRAIGHT: &[u8] =
+    b"entry (x) { x = x + [-2, 3]; assert (x >= 0); assert (x <= 10); }";
+
+const STRAIGHT_ROWS: [&[Numbers]; 5] = [
+    &[[-2, 1, 0], [7, -1, 0]],
+    &[[-2, 1, 0], [7, -1, 0]],
+    &[[0, 1, 0], [10, -1, 0]],
+    &[[10, -1, 0]],
+    &[],
+];
+
+const STRAIGHT_PROOFS: [&[Multipliers]; 4] = [
+    &[(1, &[(0, 1)]), (1, &[(1, 1)])],
+    &[(1, &[(0, 1)]), (1, &[(1, 1)])],
+    &[(1, &[(0, 1)]), (1, &[(1, 1)])],
+    &[(1, &[(0, 1)])],
+];
+
+const LOOP: &[u8] = b"entry (j) {
+  var i;
+  i = 1;
+  while (i <= 100) {
+    i = i + 1;
+    j = j + [0, 1];
+    assert (j <= 105);
+  }
+}";
+
+const LOOP_ROWS: [&[Numbers]; 8] = [
+    &[[3, -1, 0]],
+    &[[3, -1, 0]],
+    &[[2, -1, 1]],
+    &[[104, -1, 0], [2, -1, 1]],
+    &[[104, -1, 0], [1, -1, 1]],
+    &[[105, -1, 0], [2, -1, 1]],
+    &[[2, -1, 1]],
+    &[],
+];
+
+const LOOP_PROOFS: [&[Multipliers]; 8] = [
+    &[(1, &[(0, 1)])],
+    &[(1, &[(0, 1)])],
+    &[(1, &[(0, 1), (1, 1)]), (1, &[(0, 1)])],
+    &[(1, &[(0, 1)]), (1, &[(1, 1)])],
+    &[(1, &[(0, 1)]), (1, &[(1, 1)])],
+    &[(1, &[(0, 1)]), (1, &[(1, 1)])],
+    &[(1, &[(0, 1)])],
+    &[],
+];
+
+fn graph(alloc: Global, source: &[u8]) -> Result<Graph, Fail> {
+    let program = read(alloc, source)?;
+    let graph = lower(alloc, &program)?;
+    Ok(graph)
+}
+
+fn rows(alloc: Global, given: &[Numbers]) -> Result<Rows, RowsFault> {
+    let mut rows = Rows::new(alloc);
+    for [constant, first, second] in given {
+        let row = Row::of_constant(alloc, i128::from(*constant))
+            .with(0, i128::from(*first))
+            .with(1, i128::from(*second));
+        rows.push(row)?;
+    }
+    Ok(rows)
+}
+
+fn part(given: (u32, i128)) -> Option<Part>
+    ensures { IfSome result (λ p. (p.index ≡ given.0) × (p.index < PREMISES) × (p.multiplier ≢ pos 0)) }
+{
+    let (index, multiplier) = given;
+    if PREMISES as u32 <= index || multiplier == 0 || multiplier == i128::MIN {
+        return None;
+    }
+    Some(Part {
+        index,
+        multiplier: Number::new(multiplier),
+    })
+}
+
+// At most two parts, with rising indices; any further are left out.
+fn parts(alloc: Global, given: &[(u32, i128)]) -> Result<Parts, Fail> {
+    let mut parts = Parts::new(alloc);
+    if let [first, ..] = given && let Some(first) = part(*first) {
+        parts.push(first)?;
+        if let [_, second, ..] = given && let Some(second) = part(*second) && first.index < second.index {
+            parts.push(second)?;
+        }
+    }
+    Ok(parts)
+}
+
+fn proofs(alloc: Global, given: &[Multipliers]) -> Result<Items<Proof>, Fail> {
+    let mut proofs = Items::new(alloc);
+    for (goal, pairs) in given {
+        let parts = parts(alloc, pairs)?;
+        proofs.push(Proof::new(Number::new(i128::from(*goal)), parts))?;
+    }
+    Ok(proofs)
+}
+
+fn alternative(
+    alloc: Global,
+    points: &[&[Numbers]],
+    edges: &[&[Multipliers]],
+) -> Result<Annotated, Fail> {
+    let mut all_rows = Items::new(alloc);
+    for given in points {
+        all_rows.push(rows(alloc, given)?)?;
+    }
+    let mut all_proofs = Items::new(alloc);
+    for given in edges {
+        all_proofs.push(proofs(alloc, given)?)?;
+    }
+    Ok(Annotated {
+        rows: all_rows,
+        proofs: all_proofs,
+    })
+}
+
+fn certificate(
+    alloc: Global,
+    points: &[&[Numbers]],
+    edges: &[&[Multipliers]],
+    variables: u32,
+) -> Result<Certificate, Fail> {
+    let mut alternatives = Items::new(alloc);
+    alternatives.push(alternative(alloc, points, edges)?)?;
+    Ok(Certificate {
+        points: points.len() as u32,
+        edges: edges.len() as u32,
+        variables,
+        alternatives,
+    })
+}
+
+// Other rows for a point and other proofs for an edge, and what is then said of the certificate.
+type Change = (usize, &'static [Numbers], usize, &'static [Multipliers], Ruling);
+
+const STRAIGHT_CHANGES: [Change; 9] = [
+    (4, &[], 3, &[(1, &[(0, 1)])], Ruling::Accepted),
+    (
+        0,
+        &[[-3, 1, 0], [7, -1, 0]],
+        3,
+        &[(1, &[(0, 1)])],
+        Ruling::Accepted,
+    ),
+    (
+        0,
+        &[[-1, 1, 0], [7, -1, 0]],
+        3,
+        &[(1, &[(0, 1)])],
+        Ruling::NotBelow {
+            alternative: 0,
+            edge: 0,
+            row: 0,
+        },
+    ),
+    (
+        2,
+        &[[-1, 1, 0], [10, -1, 0]],
+        3,
+        &[(1, &[(0, 1)])],
+        Ruling::NotBelow {
+            alternative: 0,
+            edge: 1,
+            row: 0,
+        },
+    ),
+    (
+        4,
+        &[],
+        0,
+        &[(1, &[(0, -1)]), (1, &[(1, 1)])],
+        Ruling::Negative {
+            alternative: 0,
+            edge: 0,
+            row: 0,
+        },
+    ),
+    (
+        4,
+        &[],
+        0,
+        &[(1, &[(0, 1), (2, 1)]), (1, &[(1, 1)])],
+        Ruling::Index {
+            alternative: 0,
+            edge: 0,
+            row: 0,
+        },
+    ),
+    (
+        4,
+        &[],
+        0,
+        &[(1, &[(0, i128::MAX)]), (1, &[(1, 1)])],
+        Ruling::Past {
+            alternative: 0,
+            edge: 0,
+            row: 0,
+        },
+    ),
+    (
+        4,
+        &[],
+        1,
+        &[(0, &[(0, 1)]), (1, &[(1, 1)])],
+        Ruling::Left {
+            alternative: 0,
+            edge: 1,
+            row: 0,
+            variable: 0,
+        },
+    ),
+    (
+        4,
+        &[],
+        0,
+        &[(1, &[(0, 1)])],
+        Ruling::Count {
+            alternative: 0,
+            edge: 0,
+        },
+    ),
+];
+
+const LOOP_CHANGES: [Change; 8] = [
+    (7, &[], 7, &[], Ruling::Accepted),
+    (
+        7,
+        &[],
+        2,
+        &[(1, &[(0, 1), (1, -1)]), (1, &[(0, 1)])],
+        Ruling::Negative {
+            alternative: 0,
+            edge: 2,
+            row: 0,
+        },
+    ),
+    (
+        7,
+        &[],
+        2,
+        &[(1, &[(0, 1), (1, 1)])],
+        Ruling::Count {
+            alternative: 0,
+            edge: 2,
+        },
+    ),
+    (
+        7,
+        &[],
+        2,
+        &[(1, &[(0, i128::MAX), (1, 1)]), (1, &[(0, 1)])],
+        Ruling::Past {
+            alternative: 0,
+            edge: 2,
+            row: 0,
+        },
+    ),
+    (
+        7,
+        &[],
+        2,
+        &[(1, &[(0, 1)]), (1, &[(0, 1)])],
+        Ruling::Left {
+            alternative: 0,
+            edge: 2,
+            row: 0,
+            variable: 1,
+        },
+    ),
+    (
+        7,
+        &[],
+        2,
+        &[(1, &[(0, 1), (2, 1)]), (1, &[(0, 1)])],
+        Ruling::Index {
+            alternative: 0,
+            edge: 2,
+            row: 0,
+        },
+    ),
+    (
+        0,
+        &[[4, -1, 0]],
+        7,
+        &[],
+        Ruling::NotBelow {
+            alternative: 0,
+            edge: 0,
+            row: 0,
+        },
+    ),
+    (
+        0,
+        &[[3, -1, 1]],
+        7,
+        &[],
+        Ruling::Entry {
+            alternative: 0,
+            row: 0,
+        },
+    ),
+];
+
+#[test]
+fn a_straight_certificate_is_accepted_or_has_its_first_fault_told(
+    rt: HostRuntime,
+) -> Result<(), Fail> {
+    let alloc = rt.alloc();
+    let g = graph(alloc, STRAIGHT)?;
+    let other = graph(alloc, b"entry (x, y) { x = x - y; assert (x == 0); }")?;
+    for (point, rows, edge, proofs, wanted) in STRAIGHT_CHANGES {
+        let mut all_rows = STRAIGHT_ROWS;
+        let mut all_proofs = STRAIGHT_PROOFS;
+        if point < all_rows.len() && edge < all_proofs.len() {
+            all_rows[point] = rows;
+            all_proofs[edge] = proofs;
+        }
+        let c = certificate(alloc, &all_rows, &all_proofs, 1)?;
+        assert_eq!(rt; accept(&g, &c), wanted);
+        assert_eq!(rt; accept(&other, &c), Ruling::Shape);
+    }
+    Ok(())
+}
+
+#[test]
+fn a_certificate_of_a_loop_is_accepted_or_has_its_first_fault_told(
+    rt: HostRuntime,
+) -> Result<(), Fail> {
+    let alloc = rt.alloc();
+    let g = graph(alloc, LOOP)?;
+    let other = graph(alloc, STRAIGHT)?;
+    for (point, rows, edge, proofs, wanted) in LOOP_CHANGES {
+        let mut all_rows = LOOP_ROWS;
+        let mut all_proofs = LOOP_PROOFS;
+        if point < all_rows.len() && edge < all_proofs.len() {
+            all_rows[point] = rows;
+            all_proofs[edge] = proofs;
+        }
+        let c = certificate(alloc, &all_rows, &all_proofs, 2)?;
+        assert_eq!(rt; accept(&g, &c), wanted);
+        assert_eq!(rt; accept(&other, &c), Ruling::Shape);
+    }
+    Ok(())
+}
