@@ -1,0 +1,5 @@
+pub mod Answering
+pub mod Carried
+pub mod Asking
+pub mod Leaving
+pub mod Annotations
