@@ -1,0 +1,20 @@
+use Rattle.std.proofs.Common.{arith}
+use Rattle.pc_entail.proofs.Reducing.{going_next, going_last, here_shown}
+use Rattle.pc_entail.proofs.Removing.{removes_shown, same_states}
+use Rattle.pc_entail.proofs.Modesty.{modest_reduced}
+use Rattle.pc_entail.proofs.reduction.reduce.Goals as goal
+
+pub step-requires-clause-shown : goal.step-requires-clause-shown
+step-requires-clause-shown c = here_shown c.args.a.now c.loop-i.i c.loop-i.kept c.loop-i.removed c.at.result.now c.in_ok-later.later c.loop-i.invariant c.at.ensures c.in_ok-later.ensures
+
+pub loop-i-preserved : goal.loop-i-preserved
+loop-i-preserved c = going_next c.args.a.now c.loop-i.i c.loop-i.kept c.loop-i.removed c.at.result.now c.in_ok-later.later c.step.new.kept c.step.new.removed c.loop-i.invariant c.at.ensures c.in_ok-later.ensures c.in_ok-step.ensures
+
+pub returns-clause-states : goal.returns-clause-states
+returns-clause-states c = same_states c.args.a.now c.loop-i.kept (removes_shown c.args.a.now c.loop-i.kept (going_last c.args.a.now c.loop-i.i c.loop-i.kept c.loop-i.removed c.loop-i.invariant (omega arith)))
+
+pub returns-clause-removed : goal.returns-clause-removed
+returns-clause-removed c = removes_shown c.args.a.now c.loop-i.kept (going_last c.args.a.now c.loop-i.i c.loop-i.kept c.loop-i.removed c.loop-i.invariant (omega arith))
+
+pub returns-clause-exact : goal.returns-clause-exact
+returns-clause-exact c = modest_reduced c.args.a.now c.loop-i.kept (going_last c.args.a.now c.loop-i.i c.loop-i.kept c.loop-i.removed c.loop-i.invariant (omega arith))

@@ -1,0 +1,4 @@
+pub mod Showing
+pub mod Reduction
+pub mod Steps
+pub mod Laws

@@ -1,0 +1,15 @@
+//! Which rows show which, and lists of rows without those that the others show.
+#![tactic(auto)]
+
+mod entailment;
+mod laws;
+mod reduction;
+mod strength;
+
+pub use entailment::{contradictory, entails, shows_all};
+pub use laws::{reductions_are_equal, shown_rows_are_met, tests_are_kept};
+pub use pc_elim::Answer;
+pub use reduction::reduce;
+
+#[cfg(test)]
+mod tests;
