@@ -1,5 +1,5 @@
 -- A proof has no flaw exactly where it proves its row.
-use Rattle.std.proofs.Common.{◌≡◌, ℕ, ◌+◌, ◌<◌, ltb, ℤ, pos, negsuc, ◌≤ℤ◌, List, [], ◌∷◌, Bool, true, false, cond, length, refl, arith, Option, Some, None}
+use Rattle.std.proofs.Common.{◌≡◌, ℕ, ◌+◌, ◌<◌, ltb, ℤ, pos, negsuc, ◌≤ℤ◌, List, [], ◌∷◌, Bool, true, false, cond, length, refl, sym, ap, ◌∙◌, arith, Option, Some, None}
 use Rattle.std.specs.Prelude.{◌&&◌, not, int_le, nat_lt}
 use Rattle.std.specs.List.{AllByRecursion, list_all, position_from}
 use Rattle.std.proofs.lemmas.Bool.{ltb-true, lt-ltb}
@@ -12,14 +12,14 @@ use Rattle.pc_rows.specs.Shows.{Shows, total, TotalFits}
 use Rattle.pc_rows.proofs.Lists.{zero_is}
 use Rattle.pc_rows.proofs.Ranges.{and_is}
 use Rattle.pc_graph.specs.declared.what.What.{What}
-use Rattle.pc_graph.specs.Carry.{back}
+use Rattle.pc_graph.specs.Carry.{BackFits, back}
 use Rattle.pc_replay.specs.declared.flaw.Flaw.{Flaw}
 use Rattle.pc_replay.specs.declared.flaw.Flaw.TheVariants.{Past, Negative, Index, Left, NotBelow}
 use Rattle.pc_replay.specs.Ranges.{back_fits, total_fits}
 use Rattle.pc_replay.specs.Flaws.{needs, is_signed, names_premises, flaw_by, flaw_of_total, flaw, row_flaw}
 use Rattle.pc_replay.specs.Accepts.{Proves, RowProved}
 use Rattle.pc_replay.specs.Laws.{FlawsAreMeant}
-use Rattle.pc_replay.proofs.Alls.{both, each_if, if_each, each_more, none_passes, passes_none, not_false, true_not, zero_test}
+use Rattle.pc_replay.proofs.Alls.{both, each_if, if_each, each_more, none_passes, passes_none, not_true, not_false, true_not, zero_test}
 use Rattle.pc_replay.proofs.Fitting.{back_in, in_back, total_in, in_total}
 
 -- what is needed holds, and there is nothing else
@@ -59,6 +59,9 @@ if_total r h g =
     rw (passes_none (λ c. not (is_zero c)) 0 r.coefficients (each_more (λ c. c ≡ pos 0) (λ c. not (is_zero c) ≡ false) (λ c e. true_not (is_zero c) (zero_test c e)) r.coefficients h), if_below r.constant g)
     refl
 
+pub names_if : (n : ℕ) (p : Proof) → names_premises n p ≡ true → AllByRecursion (λ q. q.index < n) p.parts
+names_if n p h = each_if (λ (q : Part). nat_lt q.index n) (λ q. q.index < n) (λ q. ltb-true q.index n) p.parts h
+
 proves_if : (premises : List Linear) (goal : Linear) (p : Proof) → flaw premises goal p ≡ None → Proves premises goal p
 proves_if premises goal p h =
     let of_total = flaw_of_total (total premises goal p) in
@@ -73,7 +76,7 @@ proves_if premises goal p h =
       shows = record {
         goal_multiplier = at_least_if p.goal signs.1;
         multipliers = each_if (λ (q : Part). int_le (pos 0) q.multiplier) (λ q. pos 0 ≤ℤ q.multiplier) (λ q. at_least_if q.multiplier) p.parts signs.0;
-        indices = each_if (λ (q : Part). nat_lt q.index (length premises)) (λ q. q.index < length premises) (λ q. ltb-true q.index (length premises)) p.parts names.0;
+        indices = names_if (length premises) p names.0;
         left = left.0;
         below = left.1;
       };
@@ -100,3 +103,19 @@ flaws_are_meant w premises r p = (
   record { fits = back_in w r g.0; proves = proves_if premises (back w r) p g.1 },
   λ h. none_lacks (back_fits w r) Past (flaw premises (back w r) p) (in_back w r h.fits) (if_proves premises (back w r) p h.proves),
 )
+
+-- what the code finds, step by step
+
+module _ (premises : List Linear) (goal : Linear) (p : Proof) (signed : is_signed p ≡ true) (named : names_premises (length premises) p ≡ true) where
+  pub flaw_past : (TotalFits premises goal p → ⊥) → Some Past ≡ flaw premises goal p
+  flaw_past fails = rw (signed, named, not_true (total_fits premises goal p) (λ e. fails (total_in premises goal p e))) refl
+
+  pub flaw_found : (r : Linear) (o : Option Flaw) → TotalFits premises goal p × (r ≡ total premises goal p) → o ≡ flaw_of_total r → o ≡ flaw premises goal p
+  flaw_found r o h e = e ∙ ap flaw_of_total h.1 ∙ sym (rw (signed, named, in_total premises goal p h.0) refl)
+
+module _ (w : What) (premises : List Linear) (r : Linear) (p : Proof) where
+  pub row_past : (BackFits w r → ⊥) → Some Past ≡ row_flaw w premises r p
+  row_past fails = rw (not_true (back_fits w r) (λ e. fails (back_in w r e))) refl
+
+  pub row_found : (goal : Linear) (o : Option Flaw) → BackFits w r × (goal ≡ back w r) → o ≡ flaw premises goal p → o ≡ row_flaw w premises r p
+  row_found goal o h e = e ∙ ap (λ z. flaw premises z p) h.1 ∙ sym (rw (in_back w r h.0) refl)

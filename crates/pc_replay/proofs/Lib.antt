@@ -4,3 +4,5 @@ pub mod Flawless
 pub mod Shaped
 pub mod Ruled
 pub mod Sound
+pub mod Turns
+pub mod Edges

@@ -18,7 +18,7 @@ use Rattle.pc_replay.specs.declared.ruling.Ruling.{Ruling}
 use Rattle.pc_replay.specs.declared.ruling.Ruling.TheVariants as answer
 use Rattle.pc_replay.specs.Shape.{first_beyond, has_shape}
 use Rattle.pc_replay.specs.Flaws.{needs, asked, row_flaw}
-use Rattle.pc_replay.specs.Rule.{rows_at, told, first_of, first_ruling, refusal, premises, edge_ruling, alternative_ruling}
+use Rattle.pc_replay.specs.Rule.{rows_at, told, first_of, first_ruling, refusal, premises, row_ruling, edge_ruling, alternative_ruling}
 use Rattle.pc_replay.specs.Accepts.{RowProved, EdgeProved, AlternativeProved}
 use Rattle.pc_replay.specs.Laws.{RuleIsMeant, OwedIsAsked}
 use Rattle.pc_replay.proofs.Flawless.{flaws_are_meant}
@@ -55,7 +55,7 @@ nothing_found f (Some x) refuses h = absurd (refuses x h)
 found_nothing : {A : Type 0} (f : A → Ruling) (o : Option A) → o ≡ None → refusal f o ≡ answer.Accepted
 found_nothing f o h = rw h refl
 
-told_refuses : (a e k : ℕ) (f : Flaw) → Refuses (told a e k f)
+pub told_refuses : (a e k : ℕ) (f : Flaw) → Refuses (told a e k f)
 told_refuses a e k flaw.Past h = absurd (cc)
 told_refuses a e k flaw.Negative h = absurd (cc)
 told_refuses a e k flaw.Index h = absurd (cc)
@@ -84,11 +84,8 @@ ruled_each f P one n [] h = refl
 ruled_each f P one n (x ∷ xs) h = accepts_first (f n x) (first_ruling f (n + 1) xs) (one n x h.0) (ruled_each f P one (n + 1) xs h.1)
 
 module _ (n : ℕ) (a : Annotated) (i : ℕ) (e : Arc) (proofs : List Proof) where
-  abbrev on_row : ℕ → Linear × Proof → Ruling
-  on_row k y = refusal (told n i k) (row_flaw e.what (premises a e) y.0 y.1)
-
   abbrev on_rows : Ruling
-  on_rows = first_ruling on_row 0 (zip (asked e.what (rows_at a e.to)) proofs)
+  on_rows = first_ruling (row_ruling n a i e) 0 (zip (asked e.what (rows_at a e.to)) proofs)
 
   edge_proved : edge_ruling n a i (e, proofs) ≡ answer.Accepted → EdgeProved a e proofs
   edge_proved h =
@@ -96,7 +93,7 @@ module _ (n : ℕ) (a : Annotated) (i : ℕ) (e : Arc) (proofs : List Proof) whe
       let g = needed count (answer.Count n i) on_rows (count_refuses n i) h in
       record {
         count = eqb-true (length proofs) (length (owes e.what (rows_at a e.to))) g.0;
-        each = each_ruled on_row (λ x. RowProved e.what (premises a e) x.0 x.1)
+        each = each_ruled (row_ruling n a i e) (λ x. RowProved e.what (premises a e) x.0 x.1)
             (λ k y r. (flaws_are_meant e.what (premises a e) y.0 y.1).0 (nothing_found (told n i k) (row_flaw e.what (premises a e) y.0 y.1) (told_refuses n i k) r))
             0 (zip (asked e.what (rows_at a e.to)) proofs) g.1;
       }
@@ -105,7 +102,7 @@ module _ (n : ℕ) (a : Annotated) (i : ℕ) (e : Arc) (proofs : List Proof) whe
   proved_edge h =
       needs_met (length proofs == length (owes e.what (rows_at a e.to))) (answer.Count n i) on_rows
       ((Decides-eqb (length proofs) (length (owes e.what (rows_at a e.to)))).1 h.count)
-      (ruled_each on_row (λ x. RowProved e.what (premises a e) x.0 x.1)
+      (ruled_each (row_ruling n a i e) (λ x. RowProved e.what (premises a e) x.0 x.1)
         (λ k y r. found_nothing (told n i k) (row_flaw e.what (premises a e) y.0 y.1) ((flaws_are_meant e.what (premises a e) y.0 y.1).1 r))
         0 (zip (asked e.what (rows_at a e.to)) proofs) h.each)
 

@@ -1,7 +1,8 @@
 -- The tests for the shape of a certificate say what is meant.
-use Rattle.std.proofs.Common.{◌≡◌, ℕ, zero, suc, ◌≤◌, ℤ, pos, List, [], ◌∷◌, Bool, true, false, not, drop, get_or, length, refl, sym, arith, ◌==◌, None}
+use Rattle.std.proofs.Common.{◌≡◌, ℕ, zero, suc, ◌+◌, ◌≤◌, ℤ, pos, List, [], ◌∷◌, Bool, true, false, not, drop, get_or, length, cond, refl, ◌∙◌, arith, ◌==◌, Option, Some, None}
 use Rattle.std.specs.Prelude.{◌&&◌}
-use Rattle.std.specs.List.{AllByRecursion, list_all}
+use Rattle.std.specs.List.{AllByRecursion, list_all, position_from}
+use Rattle.std.specs.Option.{is_some}
 use Rattle.std.proofs.lemmas.Bool.{eqb-true}
 use Rattle.std.proofs.lemmas.Bool.Decides.{Decides-eqb}
 use Rattle.pc_rows.specs.Linear.{Linear, IsOver, is_zero}
@@ -84,3 +85,21 @@ if_shape g c h =
     both (points && edges && variables) (list_all (is_shaped c.points c.edges c.variables) c.alternatives)
     (both (points && edges) variables (both points edges (equal c.points (length g.points) h.points) (equal c.edges (length g.edges) h.edges)) (equal c.variables g.variables h.variables))
     (if_each (is_shaped c.points c.edges c.variables) (IsShaped c.points c.edges c.variables) (if_shaped c.points c.edges c.variables) c.alternatives h.each)
+
+by_first : (b c : Bool) (k : ℕ) (rest : Option ℕ) → is_some rest ≡ not c → is_some (cond (not b) (Some k) rest) ≡ not (b && c)
+by_first true c k rest h = h
+by_first false c k rest h = refl
+
+some_beyond : (n k : ℕ) (rows : List Linear) → is_some (position_from (λ r. not (is_over n r)) k rows) ≡ not (are_over n rows)
+some_beyond n k [] = refl
+some_beyond n k (r ∷ rows) = by_first (is_over n r) (are_over n rows) k (position_from (λ r. not (is_over n r)) (k + 1) rows) (some_beyond n (k + 1) rows)
+
+same_turned : (b c : Bool) → not b ≡ not c → b ≡ c
+same_turned true true e = refl
+same_turned true false e = absurd (cc)
+same_turned false true e = absurd (cc)
+same_turned false false e = refl
+
+-- whether no row goes beyond
+pub none_beyond : (b : Bool) (n : ℕ) (rows : List Linear) → not b ≡ is_some (first_beyond n rows) → b ≡ are_over n rows
+none_beyond b n rows h = same_turned b (are_over n rows) (h ∙ some_beyond n 0 rows)

@@ -54,11 +54,15 @@ refusal f (Some x) = f x
 abbrev pub premises : Annotated → Arc → List Linear
 premises a e = rows_at a e.from ++ test_rows e.what
 
--- on an edge with its proofs: as many proofs as it owes rows, and then each row in order with its proof
+-- on row k of those that edge i owes, with its proof
+abbrev pub row_ruling : ℕ → Annotated → ℕ → Arc → ℕ → Linear × Proof → Ruling
+row_ruling n a i e k x = refusal (told n i k) (row_flaw e.what (premises a e) x.0 x.1)
+
+-- on an edge with its proofs: as many proofs as it owes rows, and then each row in order
 abbrev pub edge_ruling : ℕ → Annotated → ℕ → Arc × List Proof → Ruling
 edge_ruling n a i x =
     needs (length x.1 == length (owes x.0.what (rows_at a x.0.to))) (answer.Count n i) (
-    first_ruling (λ k y. refusal (told n i k) (row_flaw x.0.what (premises a x.0) y.0 y.1)) 0 (zip (asked x.0.what (rows_at a x.0.to)) x.1))
+    first_ruling (row_ruling n a i x.0) 0 (zip (asked x.0.what (rows_at a x.0.to)) x.1))
 
 -- on an alternative: the rows of the entry are over the parameters, and then each edge in order
 abbrev pub alternative_ruling : Flow → ℕ → Annotated → Ruling

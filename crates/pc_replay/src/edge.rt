@@ -1,4 +1,4 @@
-//! The ruling on what an edge owes.
+//! The ruling on an edge.
 
 ghost use Rattle.std.specs.Prelude.{◌≡◌, ◌<◌, ◌≤◌, ◌*◌, ◌++◌, length, slice_get, Some};
 ghost use Rattle.pc_graph.specs.Carry.{test_rows, owes};
@@ -6,6 +6,7 @@ ghost use Rattle.pc_replay.specs.Flaws.{asked, row_flaw};
 ghost use Rattle.pc_replay.specs.Rule.{edge_ruling};
 
 use crate::flaw::Flaw;
+use crate::lists::rows_at;
 use crate::proof::flaw;
 use crate::ruling::Ruling;
 use pc_cert::Annotated;
@@ -14,11 +15,11 @@ use pc_rows::{Past, Proof, ROWS, Row, Rows};
 
 /// Row `k` of those that an edge has to show: an assertion its own first, and then those of its
 /// target.
-fn asked<'a>(what: &'a What, rows: &'a Rows, k: usize) -> &'a Row
-    requires { k < length (asked what.now rows.now) }
-    ensures { slice_get (asked what.now rows.now) k ≡ Some result.now }
+fn asked<'a>(e: &'a Edge, rows: &'a Rows, k: usize) -> &'a Row
+    requires { k < length (asked e.now.what rows.now) }
+    ensures { slice_get (asked e.now.what rows.now) k ≡ Some result.now }
 {
-    match what {
+    match &e.what {
         What::Check(own) if k < own.len() => own.at(k),
         What::Check(own) => rows.at(k - own.len()),
         _ => rows.at(k),
@@ -26,12 +27,12 @@ fn asked<'a>(what: &'a What, rows: &'a Rows, k: usize) -> &'a Row
 }
 
 /// How many rows an edge owes.
-fn owed(what: &What, rows: &Rows) -> usize
-    ensures value { result ≡ length (asked what.now rows.now) }
-    ensures owes { result ≡ length (owes what.now rows.now) }
+fn owed(e: &Edge, rows: &Rows) -> usize
+    ensures value { result ≡ length (asked e.now.what rows.now) }
+    ensures owes { result ≡ length (owes e.now.what rows.now) }
     ensures few { result ≤ 2 * ROWS }
 {
-    match what {
+    match &e.what {
         What::Check(own) => own.len() + rows.len(),
         _ => rows.len(),
     }
@@ -47,23 +48,23 @@ fn row_flaw(e: &Edge, premises: &Rows, r: &Row, p: &Proof) -> Option<Flaw>
     }
 }
 
-/// The ruling on edge `number` of an alternative.
-pub fn edge(alternative: u32, number: u32, e: &Edge, a: &Annotated, proofs: &[Proof]) -> Ruling
+/// The ruling on edge `i` of alternative `n`.
+pub fn edge(n: u32, a: &Annotated, i: u32, e: &Edge, proofs: &[Proof]) -> Ruling
     requires leaves { e.now.from < length a.now.rows }
     requires reaches { e.now.to < length a.now.rows }
-    ensures { result ≡ edge_ruling alternative a.now number (e.now, proofs.now) }
+    ensures { result ≡ edge_ruling n a.now i (e.now, proofs.now) }
 {
-    let premises = &a.rows.as_slice()[e.from as usize];
-    let rows = &a.rows.as_slice()[e.to as usize];
-    if proofs.len() != owed(&e.what, rows) {
+    let premises = rows_at(a, e.from);
+    let rows = rows_at(a, e.to);
+    if proofs.len() != owed(e, rows) {
         return Ruling::Count {
-            alternative,
-            edge: number,
+            alternative: n,
+            edge: i,
         };
     }
     for k in 0..proofs.len() {
-        if let Some(flaw) = row_flaw(e, premises, asked(&e.what, rows, k), &proofs[k]) {
-            return flaw.at(alternative, number, k as u32);
+        if let Some(flaw) = row_flaw(e, premises, asked(e, rows, k), &proofs[k]) {
+            return flaw.at(n, i, k as u32);
         }
     }
     Ruling::Accepted

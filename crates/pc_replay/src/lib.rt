@@ -7,6 +7,7 @@
 mod edge;
 mod flaw;
 mod laws;
+mod lists;
 mod proof;
 mod replay;
 mod ruling;

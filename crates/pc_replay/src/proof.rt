@@ -84,12 +84,13 @@ fn with_parts(rows: &Rows, what: &What, start: Row, parts: &Parts) -> Result<Row
 fn flaw_of_total(r: &Row) -> Option<Flaw>
     ensures { result ≡ flaw_of_total r.now }
 {
+    let constant = r.constant();
     for v in 0..VARIABLES as u32 {
         if r.coefficient(v) != 0 {
             return Some(Flaw::Left(v));
         }
     }
-    if 0 <= r.constant() {
+    if 0 <= constant {
         return Some(Flaw::NotBelow);
     }
     None

@@ -1,31 +1,33 @@
 //! The ruling on a certificate.
 
 ghost use Rattle.std.specs.Prelude.{◌≡◌, ◌↔◌, length};
+ghost use Rattle.pc_graph.specs.Shape.{IsGraph};
 ghost use Rattle.pc_replay.specs.Rule.{alternative_ruling, ruling};
 ghost use Rattle.pc_replay.specs.Accepts.{Accepts};
 ghost use Rattle.pc_replay.specs.Laws.{IsSafe};
 
 use crate::edge::edge;
+use crate::lists::{proofs_at, rows_at};
 use crate::ruling::Ruling;
 use crate::shape::{first_beyond, has_shape};
 use pc_cert::{Annotated, Certificate};
 use pc_graph::Graph;
 
-/// The ruling on alternative `number`.
-fn alternative(g: &Graph, number: u32, a: &Annotated) -> Ruling
+/// The ruling on alternative `n`.
+fn alternative(g: &Graph, n: u32, a: &Annotated) -> Ruling
     requires rows { length a.now.rows ≡ length g.now.points }
     requires proofs { length a.now.proofs ≡ length g.now.edges }
-    ensures { result ≡ alternative_ruling g.now number a.now }
+    ensures { result ≡ alternative_ruling g.now n a.now }
 {
-    if let Some(row) = first_beyond(g.params(), &a.rows.as_slice()[0]) {
+    let params = g.params();
+    if let Some(row) = first_beyond(params, rows_at(a, 0)) {
         return Ruling::Entry {
-            alternative: number,
+            alternative: n,
             row,
         };
     }
     for i in 0..g.edges() {
-        let proofs = a.proofs.as_slice()[i as usize].as_slice();
-        match edge(number, i, g.edge(i), a, proofs) {
+        match edge(n, a, i, g.edge(i), proofs_at(a, i)) {
             Ruling::Accepted => {}
             refused => return refused,
         }
@@ -43,6 +45,15 @@ pub fn accept(g: &Graph, c: &Certificate) -> Ruling
     ensures accepted { (result ≡ Ruling.Accepted) ↔ Accepts g.now c.now }
     ensures safe { result ≡ Ruling.Accepted → IsSafe g.now c.now }
 {
+    ruling(g, c)
+}
+
+/// The rule, step by step.
+fn ruling(g: &Graph, c: &Certificate) -> Ruling
+    ensures rule { result ≡ ruling g.now c.now }
+    ensures graph { IsGraph g.now }
+{
+    let _kept = g.points();
     if !has_shape(g, c) {
         return Ruling::Shape;
     }

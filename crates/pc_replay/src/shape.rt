@@ -1,6 +1,7 @@
 //! Whether a certificate has the shape that its graph asks for.
 
 ghost use Rattle.std.specs.Prelude.{◌≡◌};
+ghost use Rattle.std.specs.List.{list_all};
 ghost use Rattle.pc_replay.specs.Shape.{is_over, first_beyond, are_over, is_shaped, has_shape};
 
 use pc_cert::{Annotated, Certificate};
@@ -11,6 +12,7 @@ use pc_rows::{Row, Rows, VARIABLES};
 fn is_over(n: u32, r: &Row) -> bool
     ensures { result ≡ is_over n r.now }
 {
+    let _row = r.constant();
     for v in n..VARIABLES as u32 {
         if r.coefficient(v) != 0 {
             return false;
@@ -38,6 +40,13 @@ fn are_over(n: u32, rows: &Rows) -> bool
     first_beyond(n, rows).is_none()
 }
 
+/// Whether no row of any point has a variable from number `n` on.
+fn all_over(n: u32, all: &[Rows]) -> bool
+    ensures { result ≡ list_all (are_over n) all.now }
+{
+    all.iter().all(|rows| are_over(n, rows))
+}
+
 /// Whether an alternative has rows for each point and proofs for each edge, and no row has a
 /// variable that the certificate lacks.
 fn is_shaped(points: u32, edges: u32, variables: u32, a: &Annotated) -> bool
@@ -45,7 +54,14 @@ fn is_shaped(points: u32, edges: u32, variables: u32, a: &Annotated) -> bool
 {
     a.rows.len() == points as usize
         && a.proofs.len() == edges as usize
-        && a.rows.as_slice().iter().all(|rows| are_over(variables, rows))
+        && all_over(variables, a.rows.as_slice())
+}
+
+/// Whether each alternative has its lists.
+fn all_shaped(points: u32, edges: u32, variables: u32, all: &[Annotated]) -> bool
+    ensures { result ≡ list_all (is_shaped points edges variables) all.now }
+{
+    all.iter().all(|a| is_shaped(points, edges, variables, a))
 }
 
 /// Whether a certificate is for a graph with these points, edges and variables, and each
@@ -56,8 +72,10 @@ pub fn has_shape(g: &Graph, c: &Certificate) -> bool
     c.points == g.points()
         && c.edges == g.edges()
         && c.variables == g.variables()
-        && c.alternatives
-            .as_slice()
-            .iter()
-            .all(|a| is_shaped(c.points, c.edges, c.variables, a))
+        && all_shaped(
+            c.points,
+            c.edges,
+            c.variables,
+            c.alternatives.as_slice(),
+        )
 }
