@@ -6,7 +6,7 @@ use Rattle.pc_rows.specs.Joins.{PushIs}
 use Rattle.pc_rows.specs.declared.rows.RowsFault.{RowsFault}
 use Rattle.pc_rows.specs.declared.rows.RowsFault.TheVariants as rows
 use Rattle.pc_rows.specs.declared.rows.TheConstants.{ROWS}
-use Rattle.pc_graph.proofs.Lists.{each_left, each_right, each_join}
+use Rattle.pc_rows.proofs.Joining.{each_join}
 use Rattle.pc_lower.specs.declared.fault.CandidateFault.{CandidateFault}
 use Rattle.pc_lower.specs.declared.fault.CandidateFault.TheVariants.{Past, Full, NoMemory}
 use Rattle.pc_lower.specs.Faults.{told}

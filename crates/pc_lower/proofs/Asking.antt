@@ -9,7 +9,7 @@ use Rattle.pc_rows.proofs.Joining.{joined-longer}
 use Rattle.pc_graph.specs.declared.what.What.{What}
 use Rattle.pc_graph.specs.declared.what.What.TheVariants.{Enter, Test, Set, Check}
 use Rattle.pc_graph.specs.Carry.{back_all}
-use Rattle.pc_graph.proofs.Lists.{each_join}
+use Rattle.pc_rows.proofs.Joining.{each_join}
 use Rattle.pc_lower.specs.declared.fault.CandidateFault.{CandidateFault}
 use Rattle.pc_lower.specs.declared.fault.CandidateFault.TheVariants.{Past, Full, NoMemory}
 use Rattle.pc_lower.specs.Need.{uncovered, asked}
