@@ -1,5 +1,6 @@
 -- Annotations, point by point.
 use Rattle.std.proofs.Common.{◌≡◌, ◌∙◌, ℕ, zero, suc, ◌+◌, ◌<◌, ◌≤◌, arith, List, [], ◌∷◌, ◌++◌, drop, length, sym, refl, ap, subst, cond, Bool, true, false, append-nil, append_assoc}
+use Rattle.std.specs.Prelude.{slice_get, IfSome}
 use Rattle.std.specs.List.{AllByRecursion as Each}
 use Rattle.std.proofs.lemmas.List.{drop_all}
 use Rattle.pc_rows.specs.Linear.{Linear}
@@ -58,3 +59,9 @@ none_next points a new p rows lt is added h =
     ∙ ap (λ (n : ℕ). a ++ [] ∷ no_rows (drop n points)) (sym (next p))
     ∙ ap (λ (z : List (List Linear)). a ++ z) (sym (none_from points p lt))
     ∙ h
+
+-- what a graph tells of a point is what is said of it
+pub head_told : (points : List PointInfo) (p : ℕ) (b : Bool) → p < length points → IfSome (slice_get points p) (λ point. b ≡ point.head) → is_head points p ≡ b
+head_told [] p b lt h = absurd (omega arith)
+head_told (point ∷ points) zero b lt h = sym h
+head_told (point ∷ points) (suc p) b lt h = head_told points p b (omega arith) h

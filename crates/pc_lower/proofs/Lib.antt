@@ -6,3 +6,8 @@ pub mod Annotations
 pub mod Agreeing
 pub mod Filling
 pub mod Meaning
+pub mod Covering
+pub mod Paying
+pub mod Variables
+pub mod Tameness
+pub mod Completing

@@ -1,7 +1,8 @@
 //! What a point needs.
 
-ghost use Rattle.std.specs.Prelude.{◌≡◌, ◌∷◌, ◌++◌, [], length};
+ghost use Rattle.std.specs.Prelude.{◌≡◌, ◌≤◌, ◌∷◌, ◌++◌, [], length, IfOk};
 ghost use Rattle.pc_rows.specs.Joins.{joined};
+ghost use Rattle.pc_rows.specs.declared.rows.TheConstants.{ROWS};
 ghost use Rattle.pc_graph.specs.Carry.{back_all};
 ghost use Rattle.pc_lower.specs.Annotation.{rows_at};
 ghost use Rattle.pc_lower.specs.Need.{asked, leaving, needed_at};
@@ -17,7 +18,8 @@ use std::alloc::Global;
 /// The rows that a point needs which is no head: the join of what the edges from it ask, in order.
 pub fn needed_at(alloc: Global, g: &Graph, p: u32, rows: &Annotation) -> Result<Rows, CandidateFault>
     requires { length rows.now ≡ length g.now.points }
-    ensures { Answers (edges_operations (rows_at rows.now) [] (leaving p g.now.edges)) (needed_at g.now.edges (rows_at rows.now) p) result }
+    ensures needed { Answers (edges_operations (rows_at rows.now) [] (leaving p g.now.edges)) (needed_at g.now.edges (rows_at rows.now) p) result }
+    ensures few { IfOk result (λ needed. length needed ≤ ROWS) }
 {
     let mut needed = Rows::new(alloc);
     for i in 0..g.edges() {
@@ -26,6 +28,7 @@ pub fn needed_at(alloc: Global, g: &Graph, p: u32, rows: &Annotation) -> Result<
             needed = with_edge(alloc, &needed, e, rows_at(rows, e.to))?;
         }
     }
+    let _few = needed.len();
     Ok(needed)
 }
 

@@ -8,8 +8,8 @@ use Rattle.pc_lower.proofs.Leaving.{Gathers, gathers_here, gathers_other, gather
 use Rattle.pc_lower.proofs.need.needed_at.Goals as goal
 use Rattle.pc_lower.proofs.need.needed_at.Goals.{then-e-p+in_ok-needed, else-e-p}
 
-pub returns-in_err-needed : goal.returns-in_err-needed
-returns-in_err-needed c =
+pub returns-in_err-needed-clause-needed : goal.returns-in_err-needed-clause-needed
+returns-in_err-needed-clause-needed c =
     let q = err_from_is_err_and c.from_residual.result c.from_residual.ensures.1 in
     let a = rows_at c.args.rows.now in
     let e = c.edge-e.result.now in
@@ -34,5 +34,5 @@ loop-i-preserved c =
             (gathers_other a c.args.p c.args.g.now.edges c.loop-i.i e c.loop-i.needed c.edge-e.ensures c.loop-i.invariant (λ h. w.if-e-p.false (from ∙ h)))
     ]
 
-pub returns : goal.returns
-returns c = gathers_all (rows_at c.args.rows.now) c.args.p c.args.g.now.edges c.loop-i.i c.loop-i.needed (omega arith) c.loop-i.invariant
+pub returns-clause-needed : goal.returns-clause-needed
+returns-clause-needed c = gathers_all (rows_at c.args.rows.now) c.args.p c.args.g.now.edges c.loop-i.i c.loop-i.needed (omega arith) c.loop-i.invariant
