@@ -1,0 +1,5 @@
+pub mod Pairs
+pub mod Positions
+pub mod Covering
+pub mod Proofs
+pub mod Edges

@@ -1,3 +1,4 @@
 pub mod Lists
 pub mod Causes
 pub mod Proving
+pub mod Claims

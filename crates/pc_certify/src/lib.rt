@@ -1,4 +1,10 @@
 //! Proofs of annotations, and the certificate of a graph.
 #![tactic(auto)]
 
+mod annotation;
 mod cover;
+mod edge;
+mod lists;
+mod row;
+
+pub use annotation::prove;
