@@ -15,8 +15,8 @@ use Rattle.pc_lower.specs.Laws.{IsCovered}
 use Rattle.pc_replay.specs.Accepts.{RowProved}
 use Rattle.pc_replay.specs.Flaws.{asked}
 use Rattle.pc_replay.proofs.Ruled.{owed_is_asked}
-use Rattle.pc_certify.specs.Causes.{premises}
-use Rattle.pc_certify.specs.Proving.{RowsAre, EdgeIs}
+use Rattle.pc_certify.specs.Causes.{premises, EdgeFails}
+use Rattle.pc_certify.specs.Proving.{RowsAre, EdgeDone, EdgeIs}
 use Rattle.pc_certify.proofs.Pairs.{pairs_long}
 
 each_mapped : {A B : Type 0} (P : B → Type 0) (f : A → B) (xs : List A) → AllByRecursion P (map f xs) → AllByRecursion (λ x. P (f x)) xs
@@ -54,3 +54,11 @@ edge_is points a e head source own target found is_h is_source is_own is_target 
         record { each = h; few = omega (arith, long, most) }
     by (Ok None) h = h
     by (Err x) h = tt
+
+-- what is said of an answer whose content is known
+
+pub edge_none : (points : List PointInfo) (a : List (List Linear)) (e : Arc) (o : Option (List Proof)) → o ≡ None → EdgeIs points a e (Ok o) → EdgeFails points a e
+edge_none points a e o is h = subst (λ (z : Option (List Proof)). EdgeIs points a e (Ok z)) is h
+
+pub edge_some : (points : List PointInfo) (a : List (List Linear)) (e : Arc) (o : Option (List Proof)) (ps : List Proof) → o ≡ Some ps → EdgeIs points a e (Ok o) → EdgeDone a e ps
+edge_some points a e o ps is h = subst (λ (z : Option (List Proof)). EdgeIs points a e (Ok z)) is h

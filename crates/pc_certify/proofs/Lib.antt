@@ -3,3 +3,4 @@ pub mod Positions
 pub mod Covering
 pub mod Proofs
 pub mod Edges
+pub mod Claimed

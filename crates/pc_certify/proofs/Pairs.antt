@@ -54,6 +54,12 @@ module _ {A B : Type 0} (R : A → B → Type 0) where
   pairs_zip (x ∷ xs) [] h = absurd h
   pairs_zip (x ∷ xs) (y ∷ ys) h = (h.0, pairs_zip xs ys h.1)
 
+  pub pairs_second : (P : B → Type 0) → ((x : A) (y : B) → R x y → P y) → (xs : List A) (ys : List B) → Pairwise R xs ys → AllByRecursion P ys
+  pairs_second P f [] [] h = tt
+  pairs_second P f [] (y ∷ ys) h = absurd h
+  pairs_second P f (x ∷ xs) [] h = absurd h
+  pairs_second P f (x ∷ xs) (y ∷ ys) h = (f x y h.0, pairs_second P f xs ys h.1)
+
   -- a loop over the first list makes the second
 
   pub pairs_more : (xs : List A) (i : ℕ) (x : A) (ys : List B) (y : B) → slice_get xs i ≡ Some x → Pairwise R (take i xs) ys → R x y → Pairwise R (take (i + 1) xs) (ys ++ y ∷ [])
@@ -64,3 +70,9 @@ module _ {A B : Type 0} (R : A → B → Type 0) where
 
   pub pairs_done : (xs : List A) (i : ℕ) (ys : List B) → length xs ≤ i → Pairwise R (take i xs) ys → Pairwise R xs ys
   pairs_done xs i ys past h = subst (λ (zs : List A). Pairwise R zs ys) (take_all i xs past) h
+
+pub pairs_weaker : {A B : Type 0} (R S : A → B → Type 0) → ((x : A) (y : B) → R x y → S x y) → (xs : List A) (ys : List B) → Pairwise R xs ys → Pairwise S xs ys
+pairs_weaker R S f [] [] h = tt
+pairs_weaker R S f [] (y ∷ ys) h = absurd h
+pairs_weaker R S f (x ∷ xs) [] h = absurd h
+pairs_weaker R S f (x ∷ xs) (y ∷ ys) h = (f x y h.0, pairs_weaker R S f xs ys h.1)
