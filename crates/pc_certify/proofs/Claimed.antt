@@ -1,5 +1,5 @@
 -- Alternatives that are right make a certificate that is right.
-use Rattle.std.proofs.Common.{◌≡◌, ◌≤◌, List, [], ◌∷◌, ◌++◌, length, map, refl, sym, ap, subst, ◌∙◌, arith}
+use Rattle.std.proofs.Common.{◌≡◌, ◌≤◌, List, [], ◌∷◌, ◌++◌, length, map, refl, sym, ap, subst, ◌∙◌, Option, Some, Ok}
 use Rattle.std.specs.List.{AllByRecursion, zip}
 use Rattle.std.proofs.lemmas.List.{length-map}
 use Rattle.pc_rows.specs.declared.system.TheConstants.{PREMISES}
@@ -19,7 +19,7 @@ use Rattle.pc_replay.proofs.Ruled.{owed_is_asked}
 use Rattle.pc_certify.specs.Causes.{premises}
 use Rattle.pc_certify.specs.Claims.{claim, IsRight}
 use Rattle.pc_certify.specs.Lists.{Pairwise}
-use Rattle.pc_certify.specs.Proving.{EdgeDone}
+use Rattle.pc_certify.specs.Proving.{EdgeDone, EdgesAre}
 use Rattle.pc_certify.proofs.Pairs.{pairs_long, pairs_zip, pairs_second, pairs_weaker}
 
 pub edge_proved : (rows : List (List Linear)) (all : List (List Proof)) (e : Arc) (proofs : List Proof) → EdgeDone rows e proofs → EdgeProved (record { rows = rows; proofs = all }) e proofs
@@ -43,6 +43,13 @@ annotation_is_right g a proofs complete done =
       };
       few = pairs_second (EdgeDone a) (λ ps. length ps ≤ PREMISES) (λ e ps h. h.few) g.edges proofs done;
     }
+
+-- the same for what was found
+pub found_is_right : (g : Flow) (a rows : List (List Linear)) (o : Option (List (List Proof))) (proofs : List (List Proof)) → IsComplete g a → rows ≡ a → o ≡ Some proofs →
+    EdgesAre g a (Ok o) → IsRight g (record { rows = rows; proofs = proofs })
+found_is_right g a rows o proofs complete same is found =
+    subst (λ (z : List (List Linear)). IsRight g (record { rows = z; proofs = proofs })) (sym same)
+    (annotation_is_right g a proofs complete (subst (λ (z : Option (List (List Proof))). EdgesAre g a (Ok z)) is found))
 
 pub right_is_accepted : (g : Flow) (bs : List Annotated) → AllByRecursion (IsRight g) bs → Accepts g (claim g bs)
 right_is_accepted g bs h =

@@ -4,3 +4,5 @@ pub mod Covering
 pub mod Proofs
 pub mod Edges
 pub mod Claimed
+pub mod Taming
+pub mod Choosing

@@ -2,3 +2,4 @@ pub mod Lists
 pub mod Causes
 pub mod Proving
 pub mod Claims
+pub mod Inferring

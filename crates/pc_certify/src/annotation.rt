@@ -1,10 +1,12 @@
 //! The proofs of an annotation.
 
-ghost use Rattle.std.specs.Prelude.{◌≡◌, [], ◌∷◌, IfOk, IfSome, IfNone};
+ghost use Rattle.std.specs.Prelude.{◌≡◌, ◌≤◌, [], ◌∷◌, length, IfOk, IfSome, IfNone};
+ghost use Rattle.std.specs.List.{AllByRecursion};
+ghost use Rattle.pc_rows.specs.declared.system.TheConstants.{PREMISES};
 ghost use Rattle.pc_lower.specs.Laws.{IsComplete};
 ghost use Rattle.pc_replay.specs.Accepts.{Accepts};
 ghost use Rattle.pc_certify.specs.Causes.{Fails};
-ghost use Rattle.pc_certify.specs.Claims.{claim, IsRight};
+ghost use Rattle.pc_certify.specs.Claims.{claim};
 ghost use Rattle.pc_certify.specs.Proving.{EdgesAre};
 
 use crate::edge::edge_proofs;
@@ -32,7 +34,7 @@ pub fn prove(
     requires { IsComplete g.now a.now }
     ensures rows { IfOk result (λ o. IfSome o (λ b. b.rows ≡ a.now)) }
     ensures accepted { IfOk result (λ o. IfSome o (λ b. Accepts g.now (claim g.now (b ∷ [])))) }
-    ensures right { IfOk result (λ o. IfSome o (IsRight g.now)) }
+    ensures few { IfOk result (λ o. IfSome o (λ b. AllByRecursion (λ proofs. length proofs ≤ PREMISES) b.proofs)) }
     ensures cause { IfOk result (λ o. IfNone o (Fails g.now a.now)) }
 {
     match all_proofs(alloc, g, a)? {

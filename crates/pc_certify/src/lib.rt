@@ -4,7 +4,9 @@
 mod annotation;
 mod cover;
 mod edge;
+mod inference;
 mod lists;
 mod row;
 
 pub use annotation::prove;
+pub use inference::{CANDIDATES, infer};
