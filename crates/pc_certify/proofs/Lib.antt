@@ -6,3 +6,5 @@ pub mod Edges
 pub mod Claimed
 pub mod Taming
 pub mod Choosing
+pub mod Renewing
+pub mod Reductions

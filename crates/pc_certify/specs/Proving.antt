@@ -1,19 +1,18 @@
 -- The proofs of goals, of the rows that an edge owes, and of an annotation; else why there are none. Want of memory is free.
-use Rattle.std.specs.Prelude.{◌≡◌, ◌≤◌, ℕ, Bool, ℤ, pos, ◌+ℤ◌, List, [], ◌∷◌, length, Option, Some, None, Result, Ok, Err}
-use Rattle.pc_rows.specs.declared.proof.Part.{Part}
+use Rattle.std.specs.Prelude.{◌≡◌, ◌≤◌, ℕ, Bool, true, pos, ◌+ℤ◌, List, [], ◌∷◌, ◌++◌, length, Option, Some, None, Result, Ok, Err}
 use Rattle.pc_rows.specs.declared.rows.NoMemory.{NoMemory}
 use Rattle.pc_rows.specs.declared.system.TheConstants.{PREMISES}
 use Rattle.pc_rows.specs.Linear.{Linear, InRange, IsRow}
 use Rattle.pc_rows.specs.Evidence.{Proof}
 use Rattle.pc_graph.specs.declared.point.PointInfo.{PointInfo}
 use Rattle.pc_graph.specs.declared.what.What.{What}
+use Rattle.pc_graph.specs.declared.what.What.TheVariants.{Enter}
 use Rattle.pc_graph.specs.Arc.{Arc}
 use Rattle.pc_graph.specs.Flow.{Flow}
 use Rattle.pc_graph.specs.Lists.{AnyOf}
 use Rattle.pc_lower.specs.Annotation.{rows_at, is_head}
 use Rattle.pc_cert.specs.declared.certificate.Annotated.{Annotated}
-use Rattle.pc_cert.specs.Certificate.{Certificate}
-use Rattle.pc_replay.specs.Accepts.{Proves, RowProved, Accepts}
+use Rattle.pc_replay.specs.Accepts.{Proves, RowProved}
 use Rattle.pc_replay.specs.Flaws.{asked}
 use Rattle.pc_certify.specs.Causes.{premises, SumIsPast, IsNotShown, RowFails, EdgeFails, Fails}
 use Rattle.pc_certify.specs.Lists.{Pairwise}
@@ -67,8 +66,20 @@ EdgeIs points a e (Ok (Some proofs)) = EdgeDone a e proofs
 EdgeIs points a e (Ok None) = EdgeFails points a e
 EdgeIs points a e (Err x) = Unit {0}
 
--- the proofs of each edge
+-- the proofs of each edge of a graph
 abbrev pub EdgesAre : Flow → List (List Linear) → Result (Option (List (List Proof))) NoMemory → Type 0
 EdgesAre g a (Ok (Some proofs)) = Pairwise (EdgeDone a) g.edges proofs
 EdgesAre g a (Ok None) = Fails g a
 EdgesAre g a (Err e) = Unit {0}
+
+-- an annotation with the proofs of each edge
+abbrev pub AnnotatedIs : Flow → List (List Linear) → Result (Option Annotated) NoMemory → Type 0
+AnnotatedIs g a (Ok (Some b)) = (b.rows ≡ a) × Pairwise (EdgeDone a) g.edges b.proofs
+AnnotatedIs g a (Ok None) = Fails g a
+AnnotatedIs g a (Err e) = Unit {0}
+
+-- the proofs of what is owed at the entry for the rows `next` at the start, found from the rows
+abbrev pub RenewedIs : ℕ → List Linear → List Linear → Result (Option (List Proof)) NoMemory → Type 0
+RenewedIs params rows next (Ok (Some proofs)) = Pairwise (RowProved (Enter params) (rows ++ [])) next proofs × (length proofs ≤ PREMISES)
+RenewedIs params rows next (Ok None) = AnyOf (RowFails true (Enter params) rows) next
+RenewedIs params rows next (Err e) = Unit {0}

@@ -7,7 +7,7 @@ ghost use Rattle.pc_lower.specs.Laws.{IsComplete};
 ghost use Rattle.pc_replay.specs.Accepts.{Accepts};
 ghost use Rattle.pc_certify.specs.Causes.{Fails};
 ghost use Rattle.pc_certify.specs.Claims.{claim};
-ghost use Rattle.pc_certify.specs.Proving.{EdgesAre};
+ghost use Rattle.pc_certify.specs.Proving.{EdgesAre, AnnotatedIs};
 
 use crate::edge::edge_proofs;
 use crate::lists::push;
@@ -36,6 +36,18 @@ pub fn prove(
     ensures accepted { IfOk result (λ o. IfSome o (λ b. Accepts g.now (claim g.now (b ∷ [])))) }
     ensures few { IfOk result (λ o. IfSome o (λ b. AllByRecursion (λ proofs. length proofs ≤ PREMISES) b.proofs)) }
     ensures cause { IfOk result (λ o. IfNone o (Fails g.now a.now)) }
+{
+    annotated(alloc, g, a)
+}
+
+/// The annotation with the proofs of each edge.
+pub fn annotated(
+    alloc: Global,
+    g: &Graph,
+    a: &Annotation,
+) -> Result<Option<Annotated>, NoMemory>
+    requires { IsComplete g.now a.now }
+    ensures { AnnotatedIs g.now a.now result }
 {
     match all_proofs(alloc, g, a)? {
         Some(proofs) => Ok(Some(Annotated {

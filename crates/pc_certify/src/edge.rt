@@ -59,7 +59,7 @@ fn test_rows<'a>(e: &'a Edge, none: &'a Rows) -> &'a Rows
 
 /// The proofs of the rows that an edge has to show: an assertion its own first, and then those of
 /// its target.
-fn asked_proofs(
+pub fn asked_proofs(
     alloc: Global,
     head: bool,
     e: &Edge,

@@ -4,6 +4,7 @@
 mod annotation;
 mod cover;
 mod edge;
+mod entry;
 mod inference;
 mod lists;
 mod row;

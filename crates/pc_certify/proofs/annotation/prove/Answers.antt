@@ -1,15 +1,14 @@
-use Rattle.std.proofs.Common.{[], ◌∷◌}
-use Rattle.pc_certify.proofs.Claimed.{found_is_right, right_is_accepted}
+use Rattle.pc_certify.proofs.Claimed.{found_rows, found_accepted, found_few, found_cause}
 use Rattle.pc_certify.proofs.annotation.prove.Goals as goal
 
-pub returns-in_ok-copy-in-Some-clause-accepted : goal.returns-in_ok-copy-in-Some-clause-accepted
-returns-in_ok-copy-in-Some-clause-accepted c =
-    let right = found_is_right c.args.g.now c.args.a.now c.in_ok-copy-in-Some.field-0 c.in_ok-proofs.field-0 c.in-Some.proofs c.requires
-        c.in_ok-copy-in-Some.ensures c.in-Some.is c.in_ok-proofs.ensures in
-    right_is_accepted c.args.g.now (record { rows = c.in_ok-copy-in-Some.field-0; proofs = c.in-Some.proofs } ∷ []) (right, tt)
+pub returns-clause-rows : goal.returns-clause-rows
+returns-clause-rows c = found_rows c.args.g.now c.args.a.now c.requires c.annotated.result c.annotated.ensures
 
-pub returns-in_ok-copy-in-Some-clause-few : goal.returns-in_ok-copy-in-Some-clause-few
-returns-in_ok-copy-in-Some-clause-few c =
-    let right = found_is_right c.args.g.now c.args.a.now c.in_ok-copy-in-Some.field-0 c.in_ok-proofs.field-0 c.in-Some.proofs c.requires
-        c.in_ok-copy-in-Some.ensures c.in-Some.is c.in_ok-proofs.ensures in
-    right.few
+pub returns-clause-accepted : goal.returns-clause-accepted
+returns-clause-accepted c = found_accepted c.args.g.now c.args.a.now c.requires c.annotated.result c.annotated.ensures
+
+pub returns-clause-few : goal.returns-clause-few
+returns-clause-few c = found_few c.args.g.now c.args.a.now c.requires c.annotated.result c.annotated.ensures
+
+pub returns-clause-cause : goal.returns-clause-cause
+returns-clause-cause c = found_cause c.args.g.now c.args.a.now c.requires c.annotated.result c.annotated.ensures

@@ -10,5 +10,4 @@ complete-requires-clause-over c =
 
 pub returns-in-Ok : goal.returns-in-Ok
 returns-in-Ok c =
-    candidate_is c.args.g.now c.requires c.in_ok-heads.heads c.in-Ok.a c.in_ok-heads.ensures c.in-Ok.ensures.need.1 c.in-Ok.ensures.few c.prove.result
-    c.prove.ensures.rows c.prove.ensures.accepted c.prove.ensures.few c.prove.ensures.cause
+    candidate_is c.args.g.now c.requires c.in_ok-heads.heads c.in-Ok.a c.in_ok-heads.ensures c.in-Ok.ensures.need.1 c.in-Ok.ensures.complete c.annotated.result c.annotated.ensures

@@ -2,7 +2,6 @@ use Rattle.std.proofs.Common.{sym, subst}
 use Rattle.std.specs.List.{AllByRecursion}
 use Rattle.pc_cert.specs.Certificate.{Certificate, IsShowable, condition_of}
 use Rattle.pc_replay.specs.Accepts.{Accepts}
-use Rattle.pc_replay.specs.Laws.{IsSafe}
 use Rattle.pc_replay.proofs.Sound.{accepted_is_safe}
 use Rattle.pc_certify.specs.Inferring.{IsExact, AreEntryRows}
 use Rattle.pc_certify.proofs.Choosing.{is_accepted, is_showable, is_exact, are_entry_rows}
@@ -26,11 +25,10 @@ returns-clause-showable c =
 pub returns-clause-rows : goal.returns-clause-rows
 returns-clause-rows c =
     let g = c.args.g.now in
-    let chosen = c.in_ok-alternatives.ensures in
-    subst (λ (z : Certificate). AllByRecursion (AreEntryRows g.params) (condition_of z)) (sym c.claim.ensures.value)
-    (are_entry_rows g c.in_ok-alternatives.field-0 chosen.right chosen.rows)
+    subst (λ (z : Certificate). AllByRecursion (AreEntryRows g) (condition_of z)) (sym c.claim.ensures.value)
+    (are_entry_rows g c.in_ok-alternatives.field-0 c.in_ok-alternatives.ensures)
 
 pub returns-clause-exact : goal.returns-clause-exact
 returns-clause-exact c =
     let g = c.args.g.now in
-    subst (IsExact g) (sym c.claim.ensures.value) (is_exact g c.in_ok-alternatives.field-0 c.claim.ensures.kept c.in_ok-alternatives.ensures)
+    subst (IsExact g) (sym c.claim.ensures.value) (is_exact g c.in_ok-alternatives.field-0 c.in_ok-alternatives.ensures)
