@@ -20,3 +20,4 @@ pub mod Graphs
 pub mod Turns
 pub mod Straights
 pub mod Programs
+pub mod LoopFree

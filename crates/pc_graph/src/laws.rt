@@ -2,7 +2,7 @@
 
 ghost use Rattle.pc_graph.specs.Carry.{CarryingIsExact, OwedIsEnough};
 ghost use Rattle.pc_graph.specs.Corresponds.{StepsCorrespond};
-ghost use Rattle.pc_graph.specs.Straight.{GraphsAreKept, LoopsHaveTheirHeads, StraightGraphs, PaidProgramsAreSafe, OwedIsViolated};
+ghost use Rattle.pc_graph.specs.Straight.{GraphsAreKept, LoopsHaveTheirHeads, StraightGraphs, LoopFreeGraphs, PaidProgramsAreSafe, OwedIsViolated};
 ghost use Rattle.pc_graph.specs.Exact.{PaidIsSafe, BrokenHasWalk, OwedIsNeeded};
 
 /// A program and its graph take the same steps.
@@ -49,6 +49,11 @@ pub fn loops_have_their_heads()
 /// it is an assertion.
 pub fn straight_graphs()
     ensures { StraightGraphs }
+{}
+
+/// Without loops the graph of a program has no heads.
+pub fn loop_free_graphs()
+    ensures { LoopFreeGraphs }
 {}
 
 /// Where each edge of a program's graph is paid by the rows of its source, the program is safe from the entry states that
