@@ -14,6 +14,7 @@ pub mod Growing
 pub mod Drawing
 pub mod Weights
 pub mod Variables
+pub mod Limits
 pub mod Shapes
 pub mod Counts
 pub mod Graphs

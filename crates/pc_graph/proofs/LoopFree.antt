@@ -1,5 +1,5 @@
 -- The graph of a program without loops has no heads.
-use Rattle.std.proofs.Common.{◌≡◌, ℕ, ◌+◌, List, [], ◌∷◌, ◌++◌, refl, sym, ap, subst, ◌∙◌, map, Bool, false}
+use Rattle.std.proofs.Common.{◌≡◌, ℕ, ◌+◌, List, [], ◌∷◌, ◌++◌, refl, sym, ap, subst, ◌∙◌, map, false}
 use Rattle.std.specs.List.{AllByRecursion as Each}
 use Rattle.pc_text.specs.declared.place.Place.{Place}
 use Rattle.pc_syntax.specs.Forms.{rows_all}
@@ -9,7 +9,7 @@ use Rattle.pc_syntax.specs.declared.tree.Stmt.{Stmt, fold-roll-Stmt}
 use Rattle.pc_syntax.specs.declared.tree.Stmt.TheOpen as stmt
 use Rattle.pc_graph.specs.declared.draft.Loop.{Loop}
 use Rattle.pc_graph.specs.Arc.{Test, Check}
-use Rattle.pc_graph.specs.Lowering.{Piece, Rule, one, assigned, rule, rule_step, rules, made, graph, points_from}
+use Rattle.pc_graph.specs.Lowering.{Rule, one, assigned, rule, rule_step, rules, made, points_from}
 use Rattle.pc_graph.specs.Straight.{LoopFreeGraphs}
 use Rattle.pc_graph.proofs.Cases.{by_cases}
 use Rattle.pc_graph.proofs.Lists.{each_all}

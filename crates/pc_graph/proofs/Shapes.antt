@@ -1,36 +1,30 @@
 -- What the rules make: as many points as numbers, no more of them than edges, and edges that lead up or back to a head.
-use Rattle.std.proofs.Common.{◌≡◌, ℕ, ◌+◌, ◌<◌, ◌≤◌, ℤ, pos, ◌≤ℤ◌, List, [], ◌∷◌, ◌++◌, length, Bool, true, false, refl, sym, subst, arith, map, inl, inr, length-append, int_le}
-use Rattle.std.specs.Prelude.{◌⊎◌, ◌&&◌, ◌||◌, ◌==◌, nat_lt, Option, Some, None}
+use Rattle.std.proofs.Common.{◌≡◌, ℕ, ◌+◌, ◌<◌, ◌≤◌, List, [], ◌∷◌, ◌++◌, length, Bool, true, false, refl, sym, subst, arith, map, inl, inr, length-append}
+use Rattle.std.specs.Prelude.{◌⊎◌, ◌&&◌, ◌||◌, ◌==◌, nat_lt}
 use Rattle.std.specs.List.{AllByRecursion as Each, list_any}
 use Rattle.std.proofs.lemmas.Bool.Decides.{nat_tests}
-use Rattle.std.proofs.lemmas.Int.{ints}
 use Rattle.pc_text.specs.declared.place.Place.{Place}
-use Rattle.pc_grammar.specs.declared.tree.Bound.{Bound}
-use Rattle.pc_grammar.specs.declared.tree.Bound.TheVariants as bound
-use Rattle.pc_grammar.specs.declared.tree.Choice.{Choice}
-use Rattle.pc_rows.specs.Linear.{Linear, IsOver, in_range}
+use Rattle.pc_rows.specs.Linear.{Linear, IsOver}
 use Rattle.pc_rows.specs.declared.row.TheConstants.{VARIABLES}
-use Rattle.pc_rows.proofs.Ranges.{is_in}
-use Rattle.pc_syntax.specs.Forms.{form, is_affine, rows_all}
-use Rattle.pc_syntax.specs.Sane.{sane_stmt, sane_step, sane_stmts, sane_test, sane_each, sane_all, sane_right, sane_expr, names_below, sane_choice, in_order}
+use Rattle.pc_syntax.specs.Forms.{rows_all}
+use Rattle.pc_syntax.specs.Sane.{sane_stmt, sane_step, sane_stmts, sane_test, sane_each, sane_all, sane_right}
 use Rattle.pc_syntax.specs.declared.tree.Compare.{Compare}
-use Rattle.pc_syntax.specs.declared.tree.Right.{Right}
 use Rattle.pc_syntax.specs.declared.tree.Test.{Test as Condition}
-use Rattle.pc_syntax.specs.declared.tree.Test.TheVariants as test
 use Rattle.pc_syntax.specs.declared.tree.Stmt.{Stmt, fold-roll-Stmt}
 use Rattle.pc_syntax.specs.declared.tree.Stmt.TheOpen as stmt
 use Rattle.pc_syntax.proofs.Results.{and_is}
 use Rattle.pc_graph.specs.declared.draft.Loop.{Loop}
 use Rattle.pc_graph.specs.declared.what.TheConstants.{TEST_ROWS}
-use Rattle.pc_graph.specs.Arc.{What, Test, Check, Arc, arc, IsFit, BoundsFit}
+use Rattle.pc_graph.specs.Arc.{What, Test, Check, Arc, arc, IsFit}
 use Rattle.pc_graph.specs.Lists.{In}
-use Rattle.pc_graph.specs.Lowering.{Piece, Rule, one, tests, all_alike, join_edges, low_end, high_end, assigned, rule, rule_step, rules}
+use Rattle.pc_graph.specs.Lowering.{Piece, Rule, one, tests, all_alike, join_edges, assigned, rule, rule_step, rules}
 use Rattle.pc_graph.specs.Shape.{WhatIsOver}
-use Rattle.pc_graph.specs.Ways.{is_lone, apart, ways_of, ways}
+use Rattle.pc_graph.specs.Ways.{ways}
 use Rattle.pc_graph.proofs.Cases.{by_cases}
 use Rattle.pc_graph.proofs.Lists.{each_left, each_right, each_join, each_all}
-use Rattle.pc_graph.proofs.Ready.{ready_few, test_ready, all_ready}
-use Rattle.pc_graph.proofs.Variables.{form_is_over, each_over, all_over, ways_over}
+use Rattle.pc_graph.proofs.Limits.{ways_few, test_has, assigned_fits, right_over}
+use Rattle.pc_graph.proofs.Ready.{ready_few, all_ready}
+use Rattle.pc_graph.proofs.Variables.{below, each_over, all_over, ways_over}
 use Rattle.pc_graph.proofs.Unrolled.{rule-if, rule-while, sane-if, sane-while}
 
 -- the number is the head of one of the loops
@@ -78,53 +72,6 @@ head_in [] l m = absurd m
 head_in (k ∷ loops) l (inl e) =
     or_left (k.head == l.head) (list_any (λ k. k.head == l.head) loops) (subst (λ (z : Loop). (z.head == l.head) ≡ true) e (same_number l.head))
 head_in (k ∷ loops) l (inr m) = or_right (k.head == l.head) (list_any (λ k. k.head == l.head) loops) (head_in loops l m)
-
--- ---- rows and ends within their limits
-
-one_few : (rows : List Linear) → Each (λ w. length w ≤ TEST_ROWS) (apart rows)
-one_few [] = tt
-one_few (r ∷ rows) = (omega arith, one_few rows)
-
-ways_of_few : (lone b : Bool) (rows : List Linear) → length rows ≤ TEST_ROWS → Each (λ w. length w ≤ TEST_ROWS) (ways_of lone rows b)
-ways_of_few true true rows h = one_few rows
-ways_of_few true false rows h = (h, tt)
-ways_of_few false true rows h = (h, tt)
-ways_of_few false false rows h = one_few rows
-
-ways_few : (n : ℕ) (t : Condition) (b : Bool) → sane_test n t ≡ true → Each (λ w. length w ≤ TEST_ROWS) (ways t b)
-ways_few n test.Any b h = (omega arith, tt)
-ways_few n (test.All cs) b h = ways_of_few (is_lone cs) b (rows_all cs) (ready_few cs (rows_all cs) refl (test_ready n cs h))
-
-le_of_test : (a b : ℤ) → int_le a b ≡ true → a ≤ℤ b
-le_of_test a b h = grind (arith, ints)
-
--- a test has an edge
-way_of_has : (lone : Bool) (rows : List Linear) → 1 ≤ length (ways_of lone rows true) + length (ways_of lone rows false)
-way_of_has true rows = omega arith
-way_of_has false rows = omega arith
-
-test_has : (t : Condition) → 1 ≤ length (ways t true) + length (ways t false)
-test_has test.Any = omega arith
-test_has (test.All cs) = way_of_has (is_lone cs) (rows_all cs)
-
-ends_fit : (lo hi : Bound) → in_order lo hi ≡ true → BoundsFit lo hi
-ends_fit (bound.At lo) (bound.At hi) h =
-    let a = and_is (in_range lo) (in_range hi && int_le lo hi) h in
-    let b = and_is (in_range hi) (int_le lo hi) a.1 in
-    record { low = is_in lo a.0; high = is_in hi b.0; ordered = le_of_test lo hi b.1 }
-
-choice_fits : (o : Option Choice) → sane_choice o ≡ true → BoundsFit (low_end o) (high_end o)
-choice_fits None h = ends_fit (bound.At (pos 0)) (bound.At (pos 0)) refl
-choice_fits (Some choice) h = ends_fit choice.lo choice.hi h
-
-below : (a b : ℕ) → nat_lt a b ≡ true → a < b
-below a b h = grind (arith, nat_tests)
-
-assigned_fits : (n v : ℕ) (r : Right) → n ≤ VARIABLES → v < n → sane_right n r ≡ true → IsFit (assigned v r)
-assigned_fits n v r few lt h = (omega arith, choice_fits r.choice (and_is (sane_expr n r.expr) (sane_choice r.choice) h).1)
-
-right_over : (n : ℕ) (r : Right) → sane_right n r ≡ true → IsOver n (form r.expr)
-right_over n r h = form_is_over n r.expr (and_is (is_affine r.expr) (names_below n r.expr) (and_is (sane_expr n r.expr) (sane_choice r.choice) h).0).1
 
 -- ---- rules
 

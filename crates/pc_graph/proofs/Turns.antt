@@ -1,4 +1,4 @@
--- No two loops of a program share a head: each head has one edge that leads back to it.
+-- No two loops of a program share a head: no two edges lead back to one point.
 use Rattle.std.proofs.Common.{◌≡◌, ℕ, ◌+◌, ◌<◌, ◌≤◌, List, [], ◌∷◌, ◌++◌, true, false, refl, sym, subst, arith, map, inl, inr}
 use Rattle.std.specs.Prelude.{◌⊎◌}
 use Rattle.std.specs.List.{AllByRecursion as Each}
@@ -18,11 +18,11 @@ use Rattle.pc_graph.proofs.Cases.{by_cases}
 use Rattle.pc_graph.proofs.Lists.{each_join, each_more, each_all}
 use Rattle.pc_graph.proofs.Unrolled.{rule-if, rule-while}
 
--- an edge that leads back leads to a point from lo on, below hi
+-- an edge that leads up, or back to a point from lo on, below hi
 abbrev BackTo : ℕ → ℕ → Arc → Type 0
 BackTo lo hi e = (e.from < e.to) ⊎ ((lo ≤ e.to) × (e.to < hi))
 
--- edges that lead back lead to points from lo on, below hi, and no two of them to one point
+-- those of the edges that lead back lead to points from lo on, below hi, and no two of them to one point
 record Turns (lo hi : ℕ) (es : List Arc) : Type 0 where
   back : Each (BackTo lo hi) es
   own : NoSharedHead es

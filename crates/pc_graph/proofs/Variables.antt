@@ -77,14 +77,14 @@ both_claim n f step below below' r q h k e =
     let p = and_is below below' e in
     bind_keeps (IsOver n) (IsOver n) r (λ a. bind q (λ b. f a b)) (λ a x. bind_keeps (IsOver n) (IsOver n) q (λ b. f a b) (λ b y. step a b x y) (k p.1)) (h p.0)
 
-less : (a b : ℕ) → nat_lt a b ≡ true → a < b
-less a b h = grind (arith, nat_tests)
+pub below : (a b : ℕ) → nat_lt a b ≡ true → a < b
+below a b h = grind (arith, nat_tests)
 
 claims : (n : ℕ) (e : Expr) → Claim n (names_below n e) (form_of e)
 unfolding Claim
 claims n e = by_cases (λ e. Claim n (names_below n e) (form_of e))
     (λ c. simp fold-roll-Expr (λ h. number_is_over n c))
-    (λ x. simp fold-roll-Expr (λ h. variable_is_over n x (less x n h)))
+    (λ x. simp fold-roll-Expr (λ h. variable_is_over n x (below x n h)))
     (λ a p h. simp fold-roll-Expr (each_claim n (λ x. fits (Past p) (scaled_by (negsuc 0) x)) (λ a x. fits_over n p (scaled_by (negsuc 0) a) (multiple_is_over n (negsuc 0) a x)) _ _ h))
     (λ a b p h k. simp fold-roll-Expr (both_claim n (λ x y. fits (Past p) (sum_of x y)) (λ a b x y. fits_over n p (sum_of a b) (sum_is_over n a b x y)) _ _ _ _ h k))
     (λ a b p h k. simp fold-roll-Expr (both_claim n (λ x y. fits (Past p) (difference_of x y)) (λ a b x y. fits_over n p (difference_of a b) (difference_is_over n a b x y)) _ _ _ _ h k))

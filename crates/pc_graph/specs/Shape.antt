@@ -46,7 +46,7 @@ pub record IsGraph (g : Flow) : Type 0 where
 abbrev pub TurnsApart : Arc → Arc → Type 0
 TurnsApart e f = e.to ≤ e.from → f.to ≤ f.from → e.to ≢ f.to
 
--- each head has one edge that leads back to it
+-- no two edges lead back to one point
 abbrev pub NoSharedHead : List Arc → Type 0
 NoSharedHead [] = Unit {0}
 NoSharedHead (e ∷ es) = Each (TurnsApart e) es × NoSharedHead es

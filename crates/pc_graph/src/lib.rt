@@ -2,6 +2,7 @@
 #![tactic(auto)]
 
 mod assembly;
+mod assignment;
 mod backward;
 mod draft;
 mod edge;

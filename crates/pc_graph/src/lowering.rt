@@ -2,19 +2,18 @@
 
 ghost use Rattle.std.specs.Prelude.{◌≡◌, ◌<◌, ◌≤◌, ◌+◌, ◌^◌, OnOk, IfOk, true};
 ghost use Rattle.pc_rows.specs.declared.row.TheConstants.{VARIABLES};
-ghost use Rattle.pc_syntax.specs.Sane.{sane_stmt, sane_stmts, sane_test, sane_right};
+ghost use Rattle.pc_syntax.specs.Sane.{sane_stmt, sane_stmts, sane_test};
 ghost use Rattle.pc_syntax.specs.declared.tree.Stmt.TheVariants.{If, While};
-ghost use Rattle.pc_graph.specs.Arc.{IsFit};
 ghost use Rattle.pc_graph.specs.Drawn.{extended, branched, entered};
-ghost use Rattle.pc_graph.specs.Lowering.{rule, rules, assigned, low_end, high_end, graph};
+ghost use Rattle.pc_graph.specs.Lowering.{rule, rules, graph};
 ghost use Rattle.pc_graph.specs.Ways.{ways};
 
 use crate::assembly::points;
+use crate::assignment::assigned;
 use crate::draft::Draft;
 use crate::graph::Graph;
 use crate::what::What;
-use pc_grammar::Choice;
-use pc_syntax::{Bound, Compare, Program, Right, Stmt, Test, form_of, rows_of};
+use pc_syntax::{Compare, Program, Stmt, Test, rows_of};
 use pc_text::{NoMemory, Place};
 use std::alloc::Global;
 
@@ -152,43 +151,6 @@ fn lower_list(alloc: Global, n: u32, list: &[Stmt], draft: &mut Draft) -> Result
         lower_stmt(alloc, n, s, draft)?;
     }
     Ok(())
-}
-
-/// What an assignment does.
-fn assigned(alloc: Global, n: u32, var: u32, right: &Right) -> What
-    requires few { n ≤ VARIABLES }
-    requires variable { var < n }
-    requires sane { sane_right n right.now ≡ true }
-    ensures value { result ≡ assigned var right.now }
-    ensures fit { IsFit (assigned var right.now) }
-{
-    let form = form_of(alloc, &right.expr);
-    What::Set {
-        var,
-        form,
-        lo: low_end(&right.choice),
-        hi: high_end(&right.choice),
-    }
-}
-
-/// The lower end of a choice, or 0.
-fn low_end(choice: &Option<Choice>) -> Bound
-    ensures { result ≡ low_end choice.now }
-{
-    match choice {
-        Some(choice) => choice.lo,
-        None => Bound::At(0),
-    }
-}
-
-/// The upper end of a choice, or 0.
-fn high_end(choice: &Option<Choice>) -> Bound
-    ensures { result ≡ high_end choice.now }
-{
-    match choice {
-        Some(choice) => choice.hi,
-        None => Bound::At(0),
-    }
 }
 
 /// The graph of a program. It refuses for want of memory alone.

@@ -1,0 +1,69 @@
+-- What the edges of tests and assignments have is within the limits of edges.
+use Rattle.std.proofs.Common.{◌≡◌, ℕ, ◌+◌, ◌<◌, ◌≤◌, ℤ, pos, ◌≤ℤ◌, List, [], ◌∷◌, length, Bool, true, false, refl, arith, int_le}
+use Rattle.std.specs.Prelude.{◌&&◌, Option, Some, None}
+use Rattle.std.specs.List.{AllByRecursion as Each}
+use Rattle.std.proofs.lemmas.Int.{ints}
+use Rattle.pc_grammar.specs.declared.tree.Bound.{Bound}
+use Rattle.pc_grammar.specs.declared.tree.Bound.TheVariants as bound
+use Rattle.pc_grammar.specs.declared.tree.Choice.{Choice}
+use Rattle.pc_rows.specs.Linear.{Linear, IsOver, in_range}
+use Rattle.pc_rows.specs.declared.row.TheConstants.{VARIABLES}
+use Rattle.pc_rows.proofs.Ranges.{is_in}
+use Rattle.pc_syntax.specs.Forms.{form, is_affine, rows_all}
+use Rattle.pc_syntax.specs.Sane.{sane_test, sane_right, sane_expr, names_below, sane_choice, in_order}
+use Rattle.pc_syntax.specs.declared.tree.Right.{Right}
+use Rattle.pc_syntax.specs.declared.tree.Test.{Test as Condition}
+use Rattle.pc_syntax.specs.declared.tree.Test.TheVariants as test
+use Rattle.pc_syntax.proofs.Results.{and_is}
+use Rattle.pc_graph.specs.declared.what.TheConstants.{TEST_ROWS}
+use Rattle.pc_graph.specs.Arc.{IsFit, BoundsFit}
+use Rattle.pc_graph.specs.Lowering.{low_end, high_end, assigned}
+use Rattle.pc_graph.specs.Ways.{is_lone, apart, ways_of, ways}
+use Rattle.pc_graph.proofs.Ready.{ready_few, test_ready}
+use Rattle.pc_graph.proofs.Variables.{form_is_over}
+
+-- ---- tests
+
+one_few : (rows : List Linear) → Each (λ w. length w ≤ TEST_ROWS) (apart rows)
+one_few [] = tt
+one_few (r ∷ rows) = (omega arith, one_few rows)
+
+ways_of_few : (lone b : Bool) (rows : List Linear) → length rows ≤ TEST_ROWS → Each (λ w. length w ≤ TEST_ROWS) (ways_of lone rows b)
+ways_of_few true true rows h = one_few rows
+ways_of_few true false rows h = (h, tt)
+ways_of_few false true rows h = (h, tt)
+ways_of_few false false rows h = one_few rows
+
+pub ways_few : (n : ℕ) (t : Condition) (b : Bool) → sane_test n t ≡ true → Each (λ w. length w ≤ TEST_ROWS) (ways t b)
+ways_few n test.Any b h = (omega arith, tt)
+ways_few n (test.All cs) b h = ways_of_few (is_lone cs) b (rows_all cs) (ready_few cs (rows_all cs) refl (test_ready n cs h))
+
+-- a test has an edge
+way_of_has : (lone : Bool) (rows : List Linear) → 1 ≤ length (ways_of lone rows true) + length (ways_of lone rows false)
+way_of_has true rows = omega arith
+way_of_has false rows = omega arith
+
+pub test_has : (t : Condition) → 1 ≤ length (ways t true) + length (ways t false)
+test_has test.Any = omega arith
+test_has (test.All cs) = way_of_has (is_lone cs) (rows_all cs)
+
+-- ---- assignments
+
+le_of_test : (a b : ℤ) → int_le a b ≡ true → a ≤ℤ b
+le_of_test a b h = grind (arith, ints)
+
+ends_fit : (lo hi : Bound) → in_order lo hi ≡ true → BoundsFit lo hi
+ends_fit (bound.At lo) (bound.At hi) h =
+    let a = and_is (in_range lo) (in_range hi && int_le lo hi) h in
+    let b = and_is (in_range hi) (int_le lo hi) a.1 in
+    record { low = is_in lo a.0; high = is_in hi b.0; ordered = le_of_test lo hi b.1 }
+
+choice_fits : (o : Option Choice) → sane_choice o ≡ true → BoundsFit (low_end o) (high_end o)
+choice_fits None h = ends_fit (bound.At (pos 0)) (bound.At (pos 0)) refl
+choice_fits (Some choice) h = ends_fit choice.lo choice.hi h
+
+pub assigned_fits : (n v : ℕ) (r : Right) → n ≤ VARIABLES → v < n → sane_right n r ≡ true → IsFit (assigned v r)
+assigned_fits n v r few lt h = (omega arith, choice_fits r.choice (and_is (sane_expr n r.expr) (sane_choice r.choice) h).1)
+
+pub right_over : (n : ℕ) (r : Right) → sane_right n r ≡ true → IsOver n (form r.expr)
+right_over n r h = form_is_over n r.expr (and_is (is_affine r.expr) (names_below n r.expr) (and_is (sane_expr n r.expr) (sane_choice r.choice) h).0).1
