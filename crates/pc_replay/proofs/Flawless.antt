@@ -90,17 +90,17 @@ if_proves premises goal p h =
     let named = needs (names_premises (length premises) p) (Some Index) in_range in
     none_lacks (is_signed p) Negative named
     (both _ _
-      (if_each (λ (q : Part). int_le (pos 0) q.multiplier) (λ q. pos 0 ≤ℤ q.multiplier) (λ q. if_at_least q.multiplier) p.parts h.shows.multipliers)
-      (if_at_least p.goal h.shows.goal_multiplier))
+    (if_each (λ (q : Part). int_le (pos 0) q.multiplier) (λ q. pos 0 ≤ℤ q.multiplier) (λ q. if_at_least q.multiplier) p.parts h.shows.multipliers)
+    (if_at_least p.goal h.shows.goal_multiplier))
     (none_lacks (names_premises (length premises) p) Index in_range
-      (if_each (λ (q : Part). nat_lt q.index (length premises)) (λ q. q.index < length premises) (λ q. lt-ltb q.index (length premises)) p.parts h.shows.indices)
-      (none_lacks (total_fits premises goal p) Past of_total (in_total premises goal p h.fits) (if_total (total premises goal p) h.shows.left h.shows.below)))
+    (if_each (λ (q : Part). nat_lt q.index (length premises)) (λ q. q.index < length premises) (λ q. lt-ltb q.index (length premises)) p.parts h.shows.indices)
+    (none_lacks (total_fits premises goal p) Past of_total (in_total premises goal p h.fits) (if_total (total premises goal p) h.shows.left h.shows.below)))
 
 pub flaws_are_meant : FlawsAreMeant
 flaws_are_meant w premises r p = (
   λ h.
-  let g = needed (back_fits w r) Past (flaw premises (back w r) p) h in
-  record { fits = back_in w r g.0; proves = proves_if premises (back w r) p g.1 },
+      let g = needed (back_fits w r) Past (flaw premises (back w r) p) h in
+      record { fits = back_in w r g.0; proves = proves_if premises (back w r) p g.1 },
   λ h. none_lacks (back_fits w r) Past (flaw premises (back w r) p) (in_back w r h.fits) (if_proves premises (back w r) p h.proves),
 )
 

@@ -18,7 +18,7 @@ use Rattle.pc_replay.specs.declared.ruling.Ruling.{Ruling}
 use Rattle.pc_replay.specs.declared.ruling.Ruling.TheVariants as answer
 use Rattle.pc_replay.specs.Shape.{first_beyond, has_shape}
 use Rattle.pc_replay.specs.Flaws.{needs, asked, row_flaw}
-use Rattle.pc_replay.specs.Rule.{rows_at, told, first_of, first_ruling, refusal, premises, row_ruling, edge_ruling, alternative_ruling}
+use Rattle.pc_replay.specs.Rule.{rows_at, told, first_refusal, in_order, refusal, premises, row_ruling, edge_ruling, alternative_ruling}
 use Rattle.pc_replay.specs.Accepts.{RowProved, EdgeProved, AlternativeProved}
 use Rattle.pc_replay.specs.Laws.{RuleIsMeant, OwedIsAsked}
 use Rattle.pc_replay.proofs.Flawless.{flaws_are_meant}
@@ -27,7 +27,7 @@ use Rattle.pc_replay.proofs.Shaped.{none_beyond_if, if_none_beyond, shape_if, if
 abbrev Refuses : Ruling → Type 0
 Refuses r = r ≡ answer.Accepted → ⊥
 
-first_accepts : (r s : Ruling) → first_of r s ≡ answer.Accepted → (r ≡ answer.Accepted) × (s ≡ answer.Accepted)
+first_accepts : (r s : Ruling) → first_refusal r s ≡ answer.Accepted → (r ≡ answer.Accepted) × (s ≡ answer.Accepted)
 first_accepts answer.Accepted s h = (refl, h)
 first_accepts answer.Shape s h = absurd (cc)
 first_accepts (answer.Entry a k) s h = absurd (cc)
@@ -38,7 +38,7 @@ first_accepts (answer.Past a e k) s h = absurd (cc)
 first_accepts (answer.NotBelow a e k) s h = absurd (cc)
 first_accepts (answer.Left a e k v) s h = absurd (cc)
 
-accepts_first : (r s : Ruling) → r ≡ answer.Accepted → s ≡ answer.Accepted → first_of r s ≡ answer.Accepted
+accepts_first : (r s : Ruling) → r ≡ answer.Accepted → s ≡ answer.Accepted → first_refusal r s ≡ answer.Accepted
 accepts_first r s h g = rw h g
 
 needed : (b : Bool) (r rest : Ruling) → Refuses r → needs b r rest ≡ answer.Accepted → (b ≡ true) × (rest ≡ answer.Accepted)
@@ -72,20 +72,20 @@ shape_refuses : Refuses answer.Shape
 shape_refuses h = absurd (cc)
 
 each_ruled : {A : Type 0} (f : ℕ → A → Ruling) (P : A → Type 0) → ((n : ℕ) (x : A) → f n x ≡ answer.Accepted → P x) → (n : ℕ) (xs : List A) →
-    first_ruling f n xs ≡ answer.Accepted → AllByRecursion P xs
+    in_order f n xs ≡ answer.Accepted → AllByRecursion P xs
 each_ruled f P one n [] h = tt
 each_ruled f P one n (x ∷ xs) h =
-    let g = first_accepts (f n x) (first_ruling f (n + 1) xs) h in
+    let g = first_accepts (f n x) (in_order f (n + 1) xs) h in
     (one n x g.0, each_ruled f P one (n + 1) xs g.1)
 
 ruled_each : {A : Type 0} (f : ℕ → A → Ruling) (P : A → Type 0) → ((n : ℕ) (x : A) → P x → f n x ≡ answer.Accepted) → (n : ℕ) (xs : List A) →
-    AllByRecursion P xs → first_ruling f n xs ≡ answer.Accepted
+    AllByRecursion P xs → in_order f n xs ≡ answer.Accepted
 ruled_each f P one n [] h = refl
-ruled_each f P one n (x ∷ xs) h = accepts_first (f n x) (first_ruling f (n + 1) xs) (one n x h.0) (ruled_each f P one (n + 1) xs h.1)
+ruled_each f P one n (x ∷ xs) h = accepts_first (f n x) (in_order f (n + 1) xs) (one n x h.0) (ruled_each f P one (n + 1) xs h.1)
 
 module _ (n : ℕ) (a : Annotated) (i : ℕ) (e : Arc) (proofs : List Proof) where
   abbrev on_rows : Ruling
-  on_rows = first_ruling (row_ruling n a i e) 0 (zip (asked e.what (rows_at a e.to)) proofs)
+  on_rows = in_order (row_ruling n a i e) 0 (zip (asked e.what (rows_at a e.to)) proofs)
 
   edge_proved : edge_ruling n a i (e, proofs) ≡ answer.Accepted → EdgeProved a e proofs
   edge_proved h =
@@ -103,15 +103,15 @@ module _ (n : ℕ) (a : Annotated) (i : ℕ) (e : Arc) (proofs : List Proof) whe
       needs_met (length proofs == length (owes e.what (rows_at a e.to))) (answer.Count n i) on_rows
       ((Decides-eqb (length proofs) (length (owes e.what (rows_at a e.to)))).1 h.count)
       (ruled_each (row_ruling n a i e) (λ x. RowProved e.what (premises a e) x.0 x.1)
-        (λ k y r. found_nothing (told n i k) (row_flaw e.what (premises a e) y.0 y.1) ((flaws_are_meant e.what (premises a e) y.0 y.1).1 r))
-        0 (zip (asked e.what (rows_at a e.to)) proofs) h.each)
+      (λ k y r. found_nothing (told n i k) (row_flaw e.what (premises a e) y.0 y.1) ((flaws_are_meant e.what (premises a e) y.0 y.1).1 r))
+      0 (zip (asked e.what (rows_at a e.to)) proofs) h.each)
 
 module _ (g : Flow) (n : ℕ) (a : Annotated) where
   abbrev on_entry : Ruling
   on_entry = refusal (answer.Entry n) (first_beyond g.params (rows_at a 0))
 
   abbrev on_edges : Ruling
-  on_edges = first_ruling (edge_ruling n a) 0 (zip g.edges a.proofs)
+  on_edges = in_order (edge_ruling n a) 0 (zip g.edges a.proofs)
 
   alternative_proved : alternative_ruling g n a ≡ answer.Accepted → AlternativeProved g a
   alternative_proved h =
@@ -130,11 +130,11 @@ module _ (g : Flow) (n : ℕ) (a : Annotated) where
 pub rule_is_meant : RuleIsMeant
 rule_is_meant g c = (
   λ h.
-  let k = needed (has_shape g c) answer.Shape (first_ruling (alternative_ruling g) 0 c.alternatives) shape_refuses h in
-  record { shape = shape_if g c k.0; each = each_ruled (alternative_ruling g) (AlternativeProved g) (alternative_proved g) 0 c.alternatives k.1 },
+      let k = needed (has_shape g c) answer.Shape (in_order (alternative_ruling g) 0 c.alternatives) shape_refuses h in
+      record { shape = shape_if g c k.0; each = each_ruled (alternative_ruling g) (AlternativeProved g) (alternative_proved g) 0 c.alternatives k.1 },
   λ h.
-  needs_met (has_shape g c) answer.Shape (first_ruling (alternative_ruling g) 0 c.alternatives) (if_shape g c h.shape)
-  (ruled_each (alternative_ruling g) (AlternativeProved g) (proved_alternative g) 0 c.alternatives h.each),
+      needs_met (has_shape g c) answer.Shape (in_order (alternative_ruling g) 0 c.alternatives) (if_shape g c h.shape)
+      (ruled_each (alternative_ruling g) (AlternativeProved g) (proved_alternative g) 0 c.alternatives h.each),
 )
 
 back_all_is : (w : What) (rows : List Linear) → back_all w rows ≡ map (back w) rows

@@ -1,5 +1,5 @@
 -- What is wrong with a proof of a row that an edge owes: the first of its flaws, in the order of the rule.
-use Rattle.std.specs.Prelude.{ℕ, ◌+◌, nat_lt, ◌&&◌, Bool, pos, int_le, List, [], ◌∷◌, ◌++◌, length, Option, Some, None, if◌then◌else◌}
+use Rattle.std.specs.Prelude.{ℕ, ℤ, ◌+◌, nat_lt, ◌&&◌, Bool, pos, int_le, List, [], ◌∷◌, ◌++◌, length, Option, Some, None, if◌then◌else◌}
 use Rattle.std.specs.List.{list_all, position_from}
 use Rattle.std.specs.Prelude.{not}
 use Rattle.pc_rows.specs.Linear.{Linear, is_zero}
@@ -24,13 +24,17 @@ is_signed p = list_all (λ q. int_le (pos 0) q.multiplier) p.parts && int_le (po
 abbrev pub names_premises : ℕ → Proof → Bool
 names_premises count p = list_all (λ q. nat_lt q.index count) p.parts
 
+-- the first variable whose coefficient is not 0
+abbrev pub first_variable : List ℤ → Option ℕ
+first_variable cs = position_from (λ c. not (is_zero c)) 0 cs
+
 -- what is wrong with a total: its first variable, or that its constant is not below 0
 abbrev pub flaw_by : Option ℕ → Bool → Option Flaw
 flaw_by (Some v) is_below = Some (Left v)
 flaw_by None is_below = needs is_below (Some NotBelow) None
 
 abbrev pub flaw_of_total : Linear → Option Flaw
-flaw_of_total r = flaw_by (position_from (λ c. not (is_zero c)) 0 r.coefficients) (not (int_le (pos 0) r.constant))
+flaw_of_total r = flaw_by (first_variable r.coefficients) (not (int_le (pos 0) r.constant))
 
 -- what is wrong with a proof that is to show the goal from the premises
 abbrev pub flaw : List Linear → Linear → Proof → Option Flaw

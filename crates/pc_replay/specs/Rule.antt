@@ -29,21 +29,21 @@ told a e k (flaw.Left v) = answer.Left a e k v
 told a e k flaw.NotBelow = answer.NotBelow a e k
 
 -- the first ruling that refuses, of two
-abbrev pub first_of : Ruling → Ruling → Ruling
-first_of answer.Accepted r = r
-first_of answer.Shape r = answer.Shape
-first_of (answer.Entry a k) r = answer.Entry a k
-first_of (answer.Count a e) r = answer.Count a e
-first_of (answer.Negative a e k) r = answer.Negative a e k
-first_of (answer.Index a e k) r = answer.Index a e k
-first_of (answer.Past a e k) r = answer.Past a e k
-first_of (answer.NotBelow a e k) r = answer.NotBelow a e k
-first_of (answer.Left a e k v) r = answer.Left a e k v
+abbrev pub first_refusal : Ruling → Ruling → Ruling
+first_refusal answer.Accepted r = r
+first_refusal answer.Shape r = answer.Shape
+first_refusal (answer.Entry a k) r = answer.Entry a k
+first_refusal (answer.Count a e) r = answer.Count a e
+first_refusal (answer.Negative a e k) r = answer.Negative a e k
+first_refusal (answer.Index a e k) r = answer.Index a e k
+first_refusal (answer.Past a e k) r = answer.Past a e k
+first_refusal (answer.NotBelow a e k) r = answer.NotBelow a e k
+first_refusal (answer.Left a e k v) r = answer.Left a e k v
 
 -- the first ruling that refuses, of those on the items, which are numbered from n on
-abbrev pub first_ruling : {A : Type 0} → (ℕ → A → Ruling) → ℕ → List A → Ruling
-first_ruling f n [] = answer.Accepted
-first_ruling f n (x ∷ xs) = first_of (f n x) (first_ruling f (n + 1) xs)
+abbrev pub in_order : {A : Type 0} → (ℕ → A → Ruling) → ℕ → List A → Ruling
+in_order f n [] = answer.Accepted
+in_order f n (x ∷ xs) = first_refusal (f n x) (in_order f (n + 1) xs)
 
 -- none, or a refusal made of what was found
 abbrev pub refusal : {A : Type 0} → (A → Ruling) → Option A → Ruling
@@ -62,13 +62,13 @@ row_ruling n a i e k x = refusal (told n i k) (row_flaw e.what (premises a e) x.
 abbrev pub edge_ruling : ℕ → Annotated → ℕ → Arc × List Proof → Ruling
 edge_ruling n a i x =
     needs (length x.1 == length (owes x.0.what (rows_at a x.0.to))) (answer.Count n i) (
-    first_ruling (row_ruling n a i x.0) 0 (zip (asked x.0.what (rows_at a x.0.to)) x.1))
+    in_order (row_ruling n a i x.0) 0 (zip (asked x.0.what (rows_at a x.0.to)) x.1))
 
 -- on an alternative: the rows of the entry are over the parameters, and then each edge in order
 abbrev pub alternative_ruling : Flow → ℕ → Annotated → Ruling
 alternative_ruling g n a =
-    first_of (refusal (answer.Entry n) (first_beyond g.params (rows_at a 0))) (first_ruling (edge_ruling n a) 0 (zip g.edges a.proofs))
+    first_refusal (refusal (answer.Entry n) (first_beyond g.params (rows_at a 0))) (in_order (edge_ruling n a) 0 (zip g.edges a.proofs))
 
 -- on a certificate: its shape, and then each alternative in order
 abbrev pub ruling : Flow → Certificate → Ruling
-ruling g c = needs (has_shape g c) answer.Shape (first_ruling (alternative_ruling g) 0 c.alternatives)
+ruling g c = needs (has_shape g c) answer.Shape (in_order (alternative_ruling g) 0 c.alternatives)

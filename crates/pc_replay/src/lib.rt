@@ -12,6 +12,7 @@ mod proof;
 mod replay;
 mod ruling;
 mod shape;
+mod totals;
 
 pub use laws::{accepted_is_safe, accepted_programs_are_safe, rule_is_meant};
 pub use replay::accept;

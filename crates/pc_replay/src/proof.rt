@@ -2,13 +2,15 @@
 
 ghost use Rattle.std.specs.Prelude.{◌≡◌, ◌<◌, ◌++◌, length, slice_get, Some, OkIff, false};
 ghost use Rattle.std.specs.List.{AllByRecursion};
-ghost use Rattle.pc_rows.specs.Shows.{with_parts, total, PartsFit, TotalFits};
+ghost use Rattle.pc_rows.specs.Shows.{total, TotalFits};
 ghost use Rattle.pc_graph.specs.Carry.{test_rows};
-ghost use Rattle.pc_replay.specs.Flaws.{is_signed, names_premises, flaw_of_total, flaw};
+ghost use Rattle.pc_replay.specs.Flaws.{is_signed, names_premises, flaw};
+ghost use Rattle.pc_replay.specs.Totals.{AddPartsIs};
 
 use crate::flaw::Flaw;
+use crate::totals::Total;
 use pc_graph::What;
-use pc_rows::{Parts, Past, Proof, Row, Rows, VARIABLES};
+use pc_rows::{Parts, Past, Proof, Row, Rows};
 
 /// Premise `i`: the rows of the edge's source come first, and then those of its test.
 fn premise<'a>(rows: &'a Rows, what: &'a What, i: usize) -> &'a Row
@@ -59,41 +61,28 @@ fn names_premises(count: usize, p: &Proof) -> bool
 
 /// The total of a proof. `Past` exactly where a number of the negated goal, of a product or of a
 /// sum so far is not in range.
-fn total(rows: &Rows, what: &What, goal: &Row, p: &Proof) -> Result<Row, Past>
+fn total(rows: &Rows, what: &What, goal: &Row, p: &Proof) -> Result<Total, Past>
     requires { AllByRecursion (λ q. q.index < length (rows.now ++ test_rows what.now)) p.now.parts }
     ensures { OkIff result (TotalFits (rows.now ++ test_rows what.now) goal.now p.now) (total (rows.now ++ test_rows what.now) goal.now p.now) }
 {
-    let start = goal.negated()?.times(p.goal())?;
-    with_parts(rows, what, start, p.parts())
+    let _row = goal.constant();
+    let negated = goal.negated()?;
+    let mut total = Total::new();
+    total.add(p.goal(), &negated)?;
+    add_parts(&mut total, rows, what, p.parts())?;
+    Ok(total)
 }
 
-/// A sum, and the premises that are named added to it in order, each times its multiplier.
-fn with_parts(rows: &Rows, what: &What, start: Row, parts: &Parts) -> Result<Row, Past>
+/// Adds the premises that are named in order, each times its multiplier.
+fn add_parts(total: &mut Total, rows: &Rows, what: &What, parts: &Parts) -> Result<(), Past>
     requires { AllByRecursion (λ q. q.index < length (rows.now ++ test_rows what.now)) parts.now }
-    ensures { OkIff result (PartsFit (rows.now ++ test_rows what.now) start parts.now) (with_parts (rows.now ++ test_rows what.now) start parts.now) }
+    ensures { AddPartsIs (rows.now ++ test_rows what.now) total.old parts.now result total.new }
 {
-    let mut sum = start;
     for i in 0..parts.len() {
         let part = parts.at(i);
-        sum = sum.plus_times(part.multiplier, premise(rows, what, part.index as usize))?;
+        total.add(part.multiplier, premise(rows, what, part.index as usize))?;
     }
-    Ok(sum)
-}
-
-/// What is wrong with a total.
-fn flaw_of_total(r: &Row) -> Option<Flaw>
-    ensures { result ≡ flaw_of_total r.now }
-{
-    let constant = r.constant();
-    for v in 0..VARIABLES as u32 {
-        if r.coefficient(v) != 0 {
-            return Some(Flaw::Left(v));
-        }
-    }
-    if 0 <= constant {
-        return Some(Flaw::NotBelow);
-    }
-    None
+    Ok(())
 }
 
 /// The first thing that is wrong with a proof of the goal.
@@ -107,7 +96,7 @@ pub fn flaw(rows: &Rows, what: &What, goal: &Row, p: &Proof) -> Option<Flaw>
         return Some(Flaw::Index);
     }
     match total(rows, what, goal, p) {
-        Ok(total) => flaw_of_total(&total),
+        Ok(total) => total.flaw(),
         Err(Past) => Some(Flaw::Past),
     }
 }

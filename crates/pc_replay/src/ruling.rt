@@ -9,9 +9,15 @@ pub enum Ruling {
     /// length, or a row has a variable that the graph lacks.
     Shape,
     /// A row of the entry has a local.
-    Entry { alternative: u32, row: u32 },
+    Entry {
+        alternative: u32,
+        row: u32,
+    },
     /// There are not as many proofs as the edge owes rows.
-    Count { alternative: u32, edge: u32 },
+    Count {
+        alternative: u32,
+        edge: u32,
+    },
     /// A multiplier is below 0.
     Negative {
         alternative: u32,

@@ -72,10 +72,5 @@ pub fn has_shape(g: &Graph, c: &Certificate) -> bool
     c.points == g.points()
         && c.edges == g.edges()
         && c.variables == g.variables()
-        && all_shaped(
-            c.points,
-            c.edges,
-            c.variables,
-            c.alternatives.as_slice(),
-        )
+        && all_shaped(c.points, c.edges, c.variables, c.alternatives.as_slice())
 }

@@ -1,7 +1,7 @@
 //! Certificates, by example. A row is given by its constant and its coefficients, a proof by the
 //! multiplier of its goal and the indices and multipliers of its premises.
 
-ghost use Rattle.std.specs.Prelude.{◌≡◌, ◌≢◌, ◌<◌, pos, IfSome};
+ghost use Rattle.std.specs.Prelude.{◌≡◌, ◌≢◌, ◌<◌, ◌-◌, ◌^◌, length, pos, IfSome};
 ghost use Rattle.pc_rows.specs.declared.system.TheConstants.{PREMISES};
 
 use crate::replay::accept;
@@ -15,10 +15,10 @@ use std::alloc::Global;
 use std::test::Fail;
 
 type Numbers = [i64; 3];
+
 type Multipliers = (i64, &'static [(u32, i128)]);
 
-const STRAIGHT: &[u8] =
-    b"entry (x) { x = x + [-2, 3]; assert (x >= 0); assert (x <= 10); }";
+const STRAIGHT: &[u8] = b"entry (x) { x = x + [-2, 3]; assert (x >= 0); assert (x <= 10); }";
 
 const STRAIGHT_ROWS: [&[Numbers]; 5] = [
     &[[-2, 1, 0], [7, -1, 0]],
@@ -67,7 +67,9 @@ const LOOP_PROOFS: [&[Multipliers]; 8] = [
     &[],
 ];
 
-fn graph(alloc: Global, source: &[u8]) -> Result<Graph, Fail> {
+fn graph(alloc: Global, source: &[u8]) -> Result<Graph, Fail>
+    requires { length source.now < 2 ^ 32 - 1 }
+{
     let program = read(alloc, source)?;
     let graph = lower(alloc, &program)?;
     Ok(graph)
@@ -100,9 +102,14 @@ fn part(given: (u32, i128)) -> Option<Part>
 // At most two parts, with rising indices; any further are left out.
 fn parts(alloc: Global, given: &[(u32, i128)]) -> Result<Parts, Fail> {
     let mut parts = Parts::new(alloc);
-    if let [first, ..] = given && let Some(first) = part(*first) {
+    if let [first, ..] = given
+        && let Some(first) = part(*first)
+    {
         parts.push(first)?;
-        if let [_, second, ..] = given && let Some(second) = part(*second) && first.index < second.index {
+        if let [_, second, ..] = given
+            && let Some(second) = part(*second)
+            && first.index < second.index
+        {
             parts.push(second)?;
         }
     }
@@ -154,9 +161,15 @@ fn certificate(
 }
 
 // Other rows for a point and other proofs for an edge, and what is then said of the certificate.
-type Change = (usize, &'static [Numbers], usize, &'static [Multipliers], Ruling);
+type Change = (
+    usize,
+    &'static [Numbers],
+    usize,
+    &'static [Multipliers],
+    Ruling,
+);
 
-const STRAIGHT_CHANGES: [Change; 9] = [
+const STRAIGHT_CHANGES: [Change; 10] = [
     (4, &[], 3, &[(1, &[(0, 1)])], Ruling::Accepted),
     (
         0,
@@ -242,9 +255,21 @@ const STRAIGHT_CHANGES: [Change; 9] = [
             edge: 0,
         },
     ),
+    // an assertion's own row is none of its premises
+    (
+        4,
+        &[],
+        3,
+        &[(1, &[(1, 1)])],
+        Ruling::Index {
+            alternative: 0,
+            edge: 3,
+            row: 0,
+        },
+    ),
 ];
 
-const LOOP_CHANGES: [Change; 8] = [
+const LOOP_CHANGES: [Change; 9] = [
     (7, &[], 7, &[], Ruling::Accepted),
     (
         7,
@@ -288,6 +313,19 @@ const LOOP_CHANGES: [Change; 8] = [
             edge: 2,
             row: 0,
             variable: 1,
+        },
+    ),
+    // of two variables that are left the first is told
+    (
+        7,
+        &[],
+        2,
+        &[(1, &[(0, 1), (1, 1)]), (1, &[])],
+        Ruling::Left {
+            alternative: 0,
+            edge: 2,
+            row: 1,
+            variable: 0,
         },
     ),
     (
@@ -363,5 +401,71 @@ fn a_certificate_of_a_loop_is_accepted_or_has_its_first_fault_told(
         assert_eq!(rt; accept(&g, &c), wanted);
         assert_eq!(rt; accept(&other, &c), Ruling::Shape);
     }
+    Ok(())
+}
+
+#[test]
+fn an_alternative_is_looked_at_whole_before_the_next(rt: HostRuntime) -> Result<(), Fail> {
+    let alloc = rt.alloc();
+    let g = graph(alloc, LOOP)?;
+    let mut local_at_entry = LOOP_ROWS;
+    local_at_entry[0] = &[[3, -1, 0], [3, -1, 1]];
+    let mut proofs = LOOP_PROOFS;
+    let mut c = certificate(alloc, &LOOP_ROWS, &proofs, 2)?;
+    c.alternatives
+        .push(alternative(alloc, &local_at_entry, &proofs)?)?;
+    assert_eq!(rt;
+        accept(&g, &c),
+        Ruling::Entry {
+            alternative: 1,
+            row: 1,
+        }
+    );
+    proofs[6] = &[];
+    let mut c = certificate(alloc, &LOOP_ROWS, &proofs, 2)?;
+    c.alternatives
+        .push(alternative(alloc, &local_at_entry, &proofs)?)?;
+    assert_eq!(rt;
+        accept(&g, &c),
+        Ruling::Count {
+            alternative: 0,
+            edge: 6,
+        }
+    );
+    Ok(())
+}
+
+#[test]
+fn a_row_that_cannot_be_carried_back_is_past(rt: HostRuntime) -> Result<(), Fail> {
+    let alloc = rt.alloc();
+    let g = graph(
+        alloc,
+        b"entry (x) { x = 170141183460469231731687303715884105727 * x; assert (x <= 0); }",
+    )?;
+    let points: [&[Numbers]; 4] = [&[], &[], &[[0, -2, 0]], &[]];
+    let edges: [&[Multipliers]; 3] = [&[], &[(-1, &[])], &[]];
+    let c = certificate(alloc, &points, &edges, 1)?;
+    assert_eq!(rt;
+        accept(&g, &c),
+        Ruling::Past {
+            alternative: 0,
+            edge: 1,
+            row: 0,
+        }
+    );
+    Ok(())
+}
+
+#[test]
+fn no_alternative_is_no_claim(rt: HostRuntime) -> Result<(), Fail> {
+    let alloc = rt.alloc();
+    let g = graph(alloc, b"entry () { assert (1 <= 0); }")?;
+    let c = Certificate {
+        points: 3,
+        edges: 2,
+        variables: 0,
+        alternatives: Items::new(alloc),
+    };
+    assert_eq!(rt; accept(&g, &c), Ruling::Accepted);
     Ok(())
 }

@@ -13,7 +13,7 @@ pub returns-in-Ok : goal.returns-in-Ok
 returns-in-Ok c =
     let premises = c.args.rows.now ++ test_rows c.args.what.now in
     flaw_found premises c.args.goal.now c.args.p.now (sym c.if-not-is_signed.ensures) (ap (λ n. names_premises n c.args.p.now) (sym c.premises.ensures) ∙ sym c.if-not-names_premises.ensures)
-    c.in-Ok.total c.flaw_of_total.result c.in-Ok.ensures c.flaw_of_total.ensures
+    c.in-Ok.total c.flaw.result c.in-Ok.ensures c.flaw.ensures
 
 pub returns-in-Err : goal.returns-in-Err
 returns-in-Err c =

@@ -1,6 +1,6 @@
 use Rattle.std.proofs.Common.{◌≡◌, drop}
-use Rattle.pc_replay.specs.Rule.{first_ruling, alternative_ruling}
+use Rattle.pc_replay.specs.Rule.{in_order, alternative_ruling}
 use Rattle.pc_replay.proofs.replay.ruling.Given as goal
 
 abbrev pub invariant-loop-i : goal.invariant-loop-i
-invariant-loop-i l = first_ruling (alternative_ruling l.g) l.i (drop l.i l.alternatives) ≡ first_ruling (alternative_ruling l.g) 0 l.alternatives
+invariant-loop-i l = in_order (alternative_ruling l.g) l.i (drop l.i l.alternatives) ≡ in_order (alternative_ruling l.g) 0 l.alternatives

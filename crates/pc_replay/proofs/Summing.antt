@@ -1,0 +1,95 @@
+-- Products that are added in place, one after the other.
+use Rattle.std.proofs.Common.{◌≡◌, ℕ, zero, suc, ◌+◌, ◌<◌, ◌≤◌, ℤ, pos, ◌+ℤ◌, ◌*ℤ◌, List, [], ◌∷◌, ◌++◌, length, take, drop, set, get_or, replicate, refl, sym, ap, subst, ◌∙◌, arith, append_assoc}
+use Rattle.std.proofs.lemmas.Int.{ints}
+use Rattle.std.proofs.lemmas.List.{drop-set-lt, take_more_set, drop_all, take_all, append-nil, get_or_default}
+use Rattle.std.proofs.Math.IntN.{*ℤ-zero, +ℤ_idl, +ℤ_idr}
+use Rattle.pc_rows.specs.declared.row.TheConstants.{VARIABLES}
+use Rattle.pc_rows.specs.Linear.{Linear, InRange, AllInRange, IsInRange, add_lists, scale_list, sum_of, scaled_by, negation, of_constant}
+use Rattle.pc_rows.specs.declared.proof.Part.{Part}
+use Rattle.pc_rows.specs.Evidence.{Proof}
+use Rattle.pc_rows.specs.Shows.{with_parts, total, PartsFit, TotalFits}
+use Rattle.pc_rows.proofs.Adding.{drop_at}
+use Rattle.pc_rows.proofs.Algebra.{same_row, length-scale_list, length-negate_list}
+use Rattle.pc_replay.specs.Totals.{ProductsFit, ProductFits}
+
+-- a product with 0 adds nothing
+pub sum_stays : (sum k c : ℤ) → c ≡ pos 0 → sum +ℤ k *ℤ c ≡ sum
+sum_stays sum k c h = rw (h, *ℤ-zero k, +ℤ_idr sum) refl
+
+pub product_of_zero : (k c : ℤ) → c ≡ pos 0 → InRange (k *ℤ c)
+product_of_zero k c h = rw (h, *ℤ-zero k) (omega arith)
+
+-- a turn of the loop: y is what stands at v from now on
+module _ (sums cs new : List ℤ) (v : ℕ) (k x c y : ℤ) (in_sums : v < length sums) (in_cs : v < length cs) (at_sums : x ≡ get_or sums v x) (at_cs : c ≡ get_or cs v (pos 0))
+    (put : new ≡ set sums v y) (is : y ≡ x +ℤ k *ℤ c) where
+  sums_are : drop v sums ≡ x ∷ drop (v + 1) sums
+  sums_are = drop_at sums v x in_sums at_sums
+
+  cs_are : drop v cs ≡ c ∷ drop (v + 1) cs
+  cs_are = drop_at cs v c in_cs (at_cs ∙ get_or_default cs v (pos 0) c in_cs)
+
+  same_rest : drop (v + 1) new ≡ drop (v + 1) sums
+  same_rest = ap (drop (v + 1)) put ∙ drop-set-lt (v + 1) sums v y (omega arith)
+
+  more_done : take (v + 1) new ≡ take v sums ++ y ∷ []
+  more_done = ap (take (v + 1)) put ∙ take_more_set sums v y in_sums
+
+  pub products_go_on : (goal : List ℤ) → take v sums ++ add_lists (drop v sums) (scale_list k (drop v cs)) ≡ goal →
+      take (v + 1) new ++ add_lists (drop (v + 1) new) (scale_list k (drop (v + 1) cs)) ≡ goal
+  products_go_on goal h =
+      rw (more_done, same_rest, append_assoc (take v sums) (y ∷ []) (add_lists (drop (v + 1) sums) (scale_list k (drop (v + 1) cs))), is)
+      (rw (sums_are, cs_are) at h)
+
+  pub products_fit_on : ProductsFit (drop v sums) k (drop v cs) → ProductsFit (drop (v + 1) new) k (drop (v + 1) cs)
+  products_fit_on h = let g = rw (sums_are, cs_are) at h in rw same_rest (g.0.1, g.1.1)
+
+  pub products_fit_back : InRange (k *ℤ c) × InRange (x +ℤ k *ℤ c) → ProductsFit (drop (v + 1) new) k (drop (v + 1) cs) → ProductsFit (drop v sums) k (drop v cs)
+  products_fit_back f h = let g = rw same_rest at h in rw (sums_are, cs_are) ((f.0, g.0), (f.1, g.1))
+
+-- the end of the loop
+pub products_done : (sums cs goal : List ℤ) (k : ℤ) (v : ℕ) → length sums ≤ v → take v sums ++ add_lists (drop v sums) (scale_list k (drop v cs)) ≡ goal → length cs ≤ v → sums ≡ goal
+products_done sums cs goal k v all h none = sym (ap (λ z. take v sums ++ add_lists z (scale_list k (drop v cs))) (drop_all v sums all) ∙ ap (λ z. take v sums ++ scale_list k z) (drop_all v cs none) ∙ append-nil (take v sums) ∙ take_all v sums all) ∙ h
+
+pub none_left_fit : (sums cs : List ℤ) (k : ℤ) (v : ℕ) → length sums ≤ v → length cs ≤ v → ProductsFit (drop v sums) k (drop v cs)
+none_left_fit sums cs k v all none = rw (drop_all v sums all, drop_all v cs none) (tt, tt)
+
+-- to add to nothing
+add_zeros : (n : ℕ) (cs : List ℤ) → length cs ≡ n → add_lists (replicate n (pos 0)) cs ≡ cs
+add_zeros zero cs long = refl
+add_zeros (suc n) [] long = absurd (omega arith)
+add_zeros (suc n) (c ∷ cs) long = rw (+ℤ_idl c, add_zeros n cs (omega arith)) refl
+
+pub sum_from_zero : (r : Linear) → length r.coefficients ≡ VARIABLES → sum_of (of_constant (pos 0)) r ≡ r
+sum_from_zero r long = same_row (sum_of (of_constant (pos 0)) r) r (+ℤ_idl r.constant) (add_zeros VARIABLES r.coefficients long)
+
+-- the total of a proof, which begins with nothing
+module _ (premises : List Linear) (goal : Linear) (p : Proof) (k : ℤ) (start negated : Linear)
+    (multiplier : k ≡ p.goal) (begun : start ≡ of_constant (pos 0)) (turned : negated ≡ negation goal) (wide : length goal.coefficients ≡ VARIABLES) where
+  product_is : scaled_by k negated ≡ scaled_by p.goal (negation goal)
+  product_is = ap (λ z. scaled_by z negated) multiplier ∙ ap (scaled_by p.goal) turned
+
+  first_is : sum_of start (scaled_by k negated) ≡ scaled_by p.goal (negation goal)
+  first_is =
+      let long = length-scale_list p.goal (negation goal).coefficients ∙ length-negate_list goal.coefficients ∙ wide in
+      ap (λ z. sum_of z (scaled_by k negated)) begun ∙ ap (sum_of (of_constant (pos 0))) product_is ∙ sum_from_zero (scaled_by p.goal (negation goal)) long
+
+  pub product_past : (ProductFits start k negated → ⊥) → TotalFits premises goal p → ⊥
+  product_past fails h = fails (subst IsInRange (sym product_is) h.product, subst IsInRange (sym first_is) h.product)
+
+  module _ (first : Linear) (ps : List Part) (added : first ≡ sum_of start (scaled_by k negated)) (parts : ps ≡ p.parts) where
+    first_same : first ≡ scaled_by p.goal (negation goal)
+    first_same = added ∙ first_is
+
+    pub parts_past : (PartsFit premises first ps → ⊥) → TotalFits premises goal p → ⊥
+    parts_past fails h = fails (subst (λ z. PartsFit premises z ps) (sym first_same) (subst (PartsFit premises (scaled_by p.goal (negation goal))) (sym parts) h.parts))
+
+    pub total_done : (sum : Linear) → IsInRange (negation goal) → ProductFits start k negated → PartsFit premises first ps × (sum ≡ with_parts premises first ps) →
+        TotalFits premises goal p × (sum ≡ total premises goal p)
+    total_done sum fits product h = (
+      record {
+        negated_goal = fits;
+        product = subst IsInRange product_is product.0;
+        parts = subst (PartsFit premises (scaled_by p.goal (negation goal))) parts (subst (λ z. PartsFit premises z ps) first_same h.0);
+      },
+      h.1 ∙ ap (λ z. with_parts premises z ps) first_same ∙ ap (with_parts premises (scaled_by p.goal (negation goal))) parts,
+    )
