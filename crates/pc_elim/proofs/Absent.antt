@@ -4,11 +4,12 @@ use Rattle.std.specs.Prelude.{not, ◌||◌}
 use Rattle.std.specs.List.{AllByRecursion}
 use Rattle.std.proofs.lemmas.Int.{ints}
 use Rattle.std.proofs.lemmas.Bool.Decides.{nat_tests}
+use Rattle.std.proofs.lemmas.List.{append-nil}
 use Rattle.std.proofs.Math.IntN.{*ℤ-zero}
 use Rattle.pc_rows.specs.Linear.{is_zero}
 use Rattle.pc_rows.specs.Evidence.{Point}
 use Rattle.pc_rows.proofs.Lists.{zero_is}
-use Rattle.pc_elim.specs.Elimination.{Made, Bound, is_positive, factor, combine, with_each, made_from, eliminated, has_variable}
+use Rattle.pc_elim.specs.Elimination.{Made, Bound, is_positive, factor, combine, flat, with_each, kept_of, combined_of, eliminated, has_variable}
 use Rattle.pc_elim.specs.Placing.{bound_of, turned, next_bound, greater, greatest, placed_by, placed}
 use Rattle.pc_elim.specs.Fits.{AllPairsFit, GreatestFits, ByFits, PlacedFits}
 use Rattle.pc_elim.proofs.Making.{made_all}
@@ -37,11 +38,23 @@ free_signs (pos (suc n)) h = absurd (no_suc n h)
     no_suc n h = grind (arith, nat_tests)
 free_signs (negsuc n) h = cc
 
-pub free_made : (k : ℕ) (all rs : List Made) → AllFree k rs → made_from k all rs ≡ rs
-free_made k all [] h = refl
-free_made k all (r ∷ rs) h =
-    ap (λ (t : Bool). cond t (r ∷ []) (cond (is_positive (factor r k)) (with_each k r all) []) ++ made_from k all rs) h.0
-    ∙ ap (λ (z : List Made). r ∷ z) (free_made k all rs h.1)
+free_kept : (k : ℕ) (rs : List Made) → AllFree k rs → flat (kept_of k) rs ≡ rs
+free_kept k [] h = refl
+free_kept k (r ∷ rs) h =
+    ap (λ (t : Bool). cond t (r ∷ []) [] ++ flat (kept_of k) rs) h.0
+    ∙ ap (λ (z : List Made). r ∷ z) (free_kept k rs h.1)
+
+free_combined : (k : ℕ) (all rs : List Made) → AllFree k rs → flat (combined_of k all) rs ≡ []
+free_combined k all [] h = refl
+free_combined k all (r ∷ rs) h =
+    ap (λ (t : Bool). cond t (with_each k r all) [] ++ flat (combined_of k all) rs) (free_signs (factor r k) h.0).0
+    ∙ free_combined k all rs h.1
+
+pub free_made : (k : ℕ) (rs : List Made) → AllFree k rs → eliminated k rs ≡ rs
+free_made k rs h =
+    ap (λ (z : List Made). z ++ flat (combined_of k rs) rs) (free_kept k rs h)
+    ∙ ap (λ (z : List Made). rs ++ z) (free_combined k rs rs h)
+    ∙ append-nil rs
 
 pub free_pairs : (k : ℕ) (all rs : List Made) → AllFree k rs → AllByRecursion (AllPairsFit k all) rs
 free_pairs k all [] h = tt
@@ -72,7 +85,7 @@ free_placed k rs p h =
 
 pub eliminated_free : (k v : ℕ) (rs : List Made) → AllFree v rs → AllFree v (eliminated k rs)
 eliminated_free k v rs h = made_all k (λ r. is_zero (factor r v) ≡ true) (λ r. is_zero (factor r v) ≡ true) (λ r g _. g)
-    (λ p n a b _ _. zero_combined k v p n a b) rs rs h h
+    (λ p n a b _ _. zero_combined k v p n a b) rs h
   where
     sums_to_zero : (a b : ℤ) → a *ℤ pos 0 +ℤ b *ℤ pos 0 ≡ pos 0
     sums_to_zero a b = let u = *ℤ-zero a in let v = *ℤ-zero b in omega (arith, ints)

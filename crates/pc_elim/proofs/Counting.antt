@@ -1,16 +1,14 @@
 -- How many rows an elimination makes.
-use Rattle.std.proofs.Common.{◌≡◌, ℕ, zero, suc, ◌+◌, ◌-◌, ◌*◌, ◌≤◌, refl, subst, ◌∙◌, arith, List, [], ◌∷◌, Bool, true, false, cond, length, length-append, ◌⊎◌, inl, inr, neg_ℤ, ℤ, pos, negsuc}
+use Rattle.std.proofs.Common.{◌≡◌, ℕ, zero, suc, ◌+◌, ◌-◌, ◌*◌, ◌≤◌, refl, sym, ap, subst, ◌∙◌, arith, List, [], ◌∷◌, Bool, true, false, cond, length, length-append, ◌⊎◌, inl, inr, neg_ℤ, ℤ, pos, negsuc}
 use Rattle.std.proofs.lemmas.Bool.Decides.{nat_tests}
 use Rattle.std.proofs.Math.Nat.{mul-le-mul_left}
+use Rattle.std.proofs.lemmas.List.Sums.{sum_by-cons}
+use Rattle.std.specs.Prelude.{count_by}
 use Rattle.pc_rows.specs.Linear.{is_zero}
-use Rattle.pc_elim.specs.Elimination.{Made, is_positive, factor, combine, pair_of, with_each, made_of, made_from, eliminated}
+use Rattle.pc_elim.specs.Elimination.{Made, is_positive, factor, combine, flat, pair_of, with_each, kept_of, combined_of, eliminated}
 
 abbrev pub one_if : Bool → ℕ
 one_if t = cond t 1 0
-
-count : (Made → Bool) → List Made → ℕ
-count f [] = 0
-count f (r ∷ rs) = one_if (f r) + count f rs
 
 abbrev pub is_under : ℕ → Made → Bool
 is_under k n = is_positive (neg_ℤ (factor n k))
@@ -21,31 +19,48 @@ is_over k n = is_positive (factor n k)
 abbrev pub is_free : ℕ → Made → Bool
 is_free k n = is_zero (factor n k)
 
+pub count_more : (f : Made → Bool) (r : Made) (rs : List Made) → count_by f (r ∷ rs) ≡ one_if (f r) + count_by f rs
+count_more f r rs = sum_by-cons (λ (r : Made). one_if (f r)) r rs
+
 length-pair : (k : ℕ) (p n : Made) (t : Bool) → length (cond t (combine k p n ∷ []) []) ≡ one_if t
 length-pair k p n true = refl
 length-pair k p n false = refl
 
-length-with : (k : ℕ) (p : Made) (ns : List Made) → length (with_each k p ns) ≡ count (is_under k) ns
-unfolding count
+length-with : (k : ℕ) (p : Made) (ns : List Made) → length (with_each k p ns) ≡ count_by (is_under k) ns
 length-with k p [] = refl
-length-with k p (n ∷ ns) = length-append (pair_of k p n) (with_each k p ns) ∙ rw (length-pair k p n (is_under k n), length-with k p ns) refl
+length-with k p (n ∷ ns) = length-append (pair_of k p n) (with_each k p ns) ∙ rw (length-pair k p n (is_under k n), length-with k p ns) (sym (count_more (is_under k) n ns))
 
-length-made : (k : ℕ) (all : List Made) (r : Made) (t u : Bool) (m : ℕ) → length (with_each k r all) ≡ m → length (cond t (r ∷ []) (cond u (with_each k r all) [])) ≤ one_if t + one_if u * m
-length-made k all r true u m e = omega arith
-length-made k all r false true m e = omega arith
-length-made k all r false false m e = omega arith
+length-kept : (k : ℕ) (rs : List Made) → length (flat (kept_of k) rs) ≡ count_by (is_free k) rs
+length-kept k [] = refl
+length-kept k (r ∷ rs) = length-append (kept_of k r) (flat (kept_of k) rs) ∙ rw (one (is_free k r), length-kept k rs) (sym (count_more (is_free k) r rs))
+  where
+    one : (t : Bool) → length (cond t (r ∷ []) []) ≡ one_if t
+    one true = refl
+    one false = refl
 
-distribute : (a b c m : ℕ) → (a + b) * m ≡ a * m + b * m
-distribute a b c m = omega arith
+length-combined : (k : ℕ) (all rs : List Made) → length (flat (combined_of k all) rs) ≡ count_by (is_over k) rs * count_by (is_under k) all
+length-combined k all [] = omega arith
+length-combined k all (r ∷ rs) =
+    let e = length-append (combined_of k all r) (flat (combined_of k all) rs) in
+    let f = one (is_over k r) in
+    let g = length-combined k all rs in
+    let c = ap (λ (n : ℕ). n * count_by (is_under k) all) (count_more (is_over k) r rs) in
+    let d = distribute (one_if (is_over k r)) (count_by (is_over k) rs) (count_by (is_under k) all) in
+    omega arith
+  where
+    one : (t : Bool) → length (cond t (with_each k r all) []) ≡ one_if t * count_by (is_under k) all
+    one true = let e = length-with k r all in omega arith
+    one false = omega arith
 
-length-from : (k : ℕ) (all rs : List Made) → length (made_from k all rs) ≤ count (is_free k) rs + count (is_over k) rs * count (is_under k) all
-unfolding count
-length-from k all [] = omega arith
-length-from k all (r ∷ rs) =
-    let e = length-append (made_of k all r) (made_from k all rs) in
-    let f = length-made k all r (is_free k r) (is_over k r) (count (is_under k) all) (length-with k r all) in
-    let g = length-from k all rs in
-    let d = distribute (one_if (is_over k r)) (count (is_over k) rs) 0 (count (is_under k) all) in
+    distribute : (a b m : ℕ) → (a + b) * m ≡ a * m + b * m
+    distribute a b m = omega arith
+
+-- those that are kept and all pairs
+pub length-eliminated : (k : ℕ) (rs : List Made) → length (eliminated k rs) ≡ count_by (is_free k) rs + count_by (is_over k) rs * count_by (is_under k) rs
+length-eliminated k rs =
+    let e = length-append (flat (kept_of k) rs) (flat (combined_of k rs) rs) in
+    let f = length-kept k rs in
+    let g = length-combined k rs rs in
     omega arith
 
 one_sign : (c : ℤ) → one_if (is_zero c) + one_if (is_positive c) + one_if (is_positive (neg_ℤ c)) ≤ 1
@@ -59,10 +74,14 @@ one_sign (negsuc n) = below_neg n
     below_neg : (n : ℕ) → one_if (is_zero (negsuc n)) + one_if (is_positive (negsuc n)) + one_if (is_positive (neg_ℤ (negsuc n))) ≤ 1
     below_neg n = grind (arith, nat_tests)
 
-counts : (k : ℕ) (rs : List Made) → count (is_free k) rs + count (is_over k) rs + count (is_under k) rs ≤ length rs
-unfolding count
+pub counts : (k : ℕ) (rs : List Made) → count_by (is_free k) rs + count_by (is_over k) rs + count_by (is_under k) rs ≤ length rs
 counts k [] = omega arith
-counts k (r ∷ rs) = let e = one_sign (factor r k) in let f = counts k rs in omega arith
+counts k (r ∷ rs) =
+    let a = count_more (is_free k) r rs in
+    let b = count_more (is_over k) r rs in
+    let c = count_more (is_under k) r rs in
+    let e = one_sign (factor r k) in
+    let f = counts k rs in omega arith
 
 -- a product of two numbers and their sum
 square_small : (p q d : ℕ) → q ≤ p + d + d → p * q ≤ (p + d) * (p + d)
@@ -92,7 +111,7 @@ product_room z (suc p) n h two s =
 
 pub eliminated_room : (k : ℕ) (rs : List Made) (h : ℕ) → 2 ≤ h → length rs ≤ h + h → length (eliminated k rs) ≤ h * h
 eliminated_room k rs h two le =
-    let e = length-from k rs rs in
+    let e = length-eliminated k rs in
     let c = counts k rs in
-    let r = product_room (count (is_free k) rs) (count (is_over k) rs) (count (is_under k) rs) h two (omega arith) in
+    let r = product_room (count_by (is_free k) rs) (count_by (is_over k) rs) (count_by (is_under k) rs) h two (omega arith) in
     omega arith

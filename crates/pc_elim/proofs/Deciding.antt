@@ -18,7 +18,7 @@ use Rattle.pc_elim.specs.declared.settle.Found.{Found}
 use Rattle.pc_elim.specs.declared.settle.Found.TheVariants.{Shown, At}
 use Rattle.pc_elim.specs.declared.made.Fault.{Fault}
 use Rattle.pc_elim.specs.declared.made.Fault.TheVariants.{Past, Full}
-use Rattle.pc_elim.specs.declared.made.TheConstants.{PARTS}
+use Rattle.pc_elim.specs.declared.made.TheConstants.{PARTS, LIMIT}
 use Rattle.pc_elim.specs.Elimination.{Made, started}
 use Rattle.pc_elim.specs.Settling.{settle, proof_of}
 use Rattle.pc_elim.specs.Fits.{Calm, SettleIs}
@@ -103,6 +103,13 @@ pub negation_not_modest : (s : System) → (IsInRange (negation s.goal) → ⊥)
 negation_not_modest s h m = h (row_in_range MODEST_NUMBER (negation s.goal) (omega arith) (modest_negation s m))
 
 -- the answers of the code
+
+pub started_few : (s : System) (rows : List Made) → rows ≡ started PARTS (refuting s) → IsSystem s → length rows ≤ LIMIT
+started_few s rows e h =
+    let l = ap (length {A = Made}) e ∙ length-started PARTS zero (refuting s) in
+    let a = length-append s.premises (negation s.goal ∷ []) in
+    let m = h.most in
+    omega arith
 
 module _ (s : System) (rows : List Made) (same : rows ≡ started PARTS (refuting s)) where
   same_answer : settle VARIABLES VARIABLES zero rows ≡ answer s

@@ -12,6 +12,8 @@ pub mod Stages
 pub mod Starting
 pub mod Settlement
 pub mod Adding
+pub mod Pairing
+pub mod Contradicting
 pub mod Proving
 pub mod Totals
 pub mod Deciding

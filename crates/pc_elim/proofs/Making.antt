@@ -2,7 +2,7 @@
 use Rattle.std.proofs.Common.{◌≡◌, ℕ, refl, neg_ℤ, List, [], ◌∷◌, ◌++◌, Bool, true, false, cond}
 use Rattle.std.specs.List.{AllByRecursion}
 use Rattle.pc_rows.specs.Linear.{is_zero}
-use Rattle.pc_elim.specs.Elimination.{Made, is_positive, factor, combine, with_each, made_of, made_from}
+use Rattle.pc_elim.specs.Elimination.{Made, is_positive, factor, combine, flat, with_each, kept_of, combined_of, eliminated}
 
 module _ (k : ℕ) (P Q : Made → Type 0)
     (kept : (r : Made) → P r → is_zero (factor r k) ≡ true → Q r)
@@ -19,11 +19,21 @@ module _ (k : ℕ) (P Q : Made → Type 0)
   both [] bs h g = g
   both (a ∷ as') bs h g = (h.0, both as' bs h.1 g)
 
-  made_if : (all : List Made) (r : Made) (t u : Bool) → P r → AllByRecursion P all → is_zero (factor r k) ≡ t → is_positive (factor r k) ≡ u → AllByRecursion Q (cond t (r ∷ []) (cond u (with_each k r all) []))
-  made_if all r true u x h e f = (kept r x e, tt)
-  made_if all r false true x h e f = with_all r all x f h
-  made_if all r false false x h e f = tt
+  kept_if : (r : Made) (t : Bool) → P r → is_zero (factor r k) ≡ t → AllByRecursion Q (cond t (r ∷ []) [])
+  kept_if r true x e = (kept r x e, tt)
+  kept_if r false x e = tt
 
-  pub made_all : (all rs : List Made) → AllByRecursion P all → AllByRecursion P rs → AllByRecursion Q (made_from k all rs)
-  made_all all [] h g = tt
-  made_all all (r ∷ rs) h g = both (made_of k all r) (made_from k all rs) (made_if all r (is_zero (factor r k)) (is_positive (factor r k)) g.0 h refl refl) (made_all all rs h g.1)
+  kept_all : (rs : List Made) → AllByRecursion P rs → AllByRecursion Q (flat (kept_of k) rs)
+  kept_all [] h = tt
+  kept_all (r ∷ rs) h = both (kept_of k r) (flat (kept_of k) rs) (kept_if r (is_zero (factor r k)) h.0 refl) (kept_all rs h.1)
+
+  combined_if : (all : List Made) (r : Made) (t : Bool) → P r → AllByRecursion P all → is_positive (factor r k) ≡ t → AllByRecursion Q (cond t (with_each k r all) [])
+  combined_if all r true x h e = with_all r all x e h
+  combined_if all r false x h e = tt
+
+  combined_all : (all rs : List Made) → AllByRecursion P all → AllByRecursion P rs → AllByRecursion Q (flat (combined_of k all) rs)
+  combined_all all [] h g = tt
+  combined_all all (r ∷ rs) h g = both (combined_of k all r) (flat (combined_of k all) rs) (combined_if all r (is_positive (factor r k)) g.0 h refl) (combined_all all rs h g.1)
+
+  pub made_all : (rs : List Made) → AllByRecursion P rs → AllByRecursion Q (eliminated k rs)
+  made_all rs h = both (flat (kept_of k) rs) (flat (combined_of k rs) rs) (kept_all rs h) (combined_all rs rs h h)

@@ -10,7 +10,7 @@ use Rattle.pc_rows.proofs.Ring.{mul_add, mul_neg, mul_comm, mul_assoc, product_n
 use Rattle.pc_rows.proofs.Lists.{zero_is, dot-moved}
 use Rattle.pc_rows.proofs.Algebra.{get_or-scale_list, length-scale_list}
 use Rattle.pc_rows.proofs.Farkas.{numerator-sum, numerator-scaled}
-use Rattle.pc_elim.specs.Elimination.{Made, Bound, is_positive, factor, combine, with_each, made_of, made_from, eliminated}
+use Rattle.pc_elim.specs.Elimination.{Made, Bound, is_positive, factor, combine, flat, with_each, kept_of, combined_of, eliminated}
 use Rattle.pc_elim.specs.Placing.{bound_of, turned, greatest, placed_at, placed_by, placed}
 use Rattle.pc_elim.proofs.Bounds.{Beats, Gives, Has, greatest_is, greatest_has, greatest_none}
 
@@ -54,7 +54,7 @@ abbrev pub Pair : ℕ → Point → Made → Made → Type 0
 Pair k p r n = is_positive (neg_ℤ (factor n k)) ≡ true → IsMetAt p (combine k r n)
 
 abbrev pub Pairs : ℕ → Point → List Made → Made → Type 0
-Pairs k p all r = is_zero (factor r k) ≡ false → is_positive (factor r k) ≡ true → AllByRecursion (Pair k p r) all
+Pairs k p all r = is_positive (factor r k) ≡ true → AllByRecursion (Pair k p r) all
 
 with_if : (k : ℕ) (p : Point) (r n : Made) (ns : List Made) (t : Bool) → is_positive (neg_ℤ (factor n k)) ≡ t → AllMeet p (cond t (combine k r n ∷ []) [] ++ with_each k r ns) → Pair k p r n × AllMeet p (with_each k r ns)
 with_if k p r n ns true e h = (λ _. h.0, h.1)
@@ -64,29 +64,33 @@ with_meets : (k : ℕ) (p : Point) (r : Made) (ns : List Made) → AllMeet p (wi
 with_meets k p r [] h = tt
 with_meets k p r (n ∷ ns) h = let q = with_if k p r n ns (is_positive (neg_ℤ (factor n k))) refl h in (q.0, with_meets k p r ns q.1)
 
-made_if : (k : ℕ) (p : Point) (all : List Made) (r : Made) (t u : Bool) → is_zero (factor r k) ≡ t → is_positive (factor r k) ≡ u → AllMeet p (cond t (r ∷ []) (cond u (with_each k r all) [])) → Zeros k p r × Pairs k p all r
-made_if k p all r true u e f h = (λ _. h.0, λ g. cc)
-made_if k p all r false true e f h = (λ g. cc, λ _ _. with_meets k p r all h)
-made_if k p all r false false e f h = (λ g. cc, λ _ g. cc)
+kept_if : (k : ℕ) (p : Point) (r : Made) (t : Bool) → is_zero (factor r k) ≡ t → AllMeet p (cond t (r ∷ []) []) → Zeros k p r
+kept_if k p r true e h = λ _. h.0
+kept_if k p r false e h = λ g. cc
+
+combined_if : (k : ℕ) (p : Point) (all : List Made) (r : Made) (t : Bool) → is_positive (factor r k) ≡ t → AllMeet p (cond t (with_each k r all) []) → Pairs k p all r
+combined_if k p all r true e h = λ _. with_meets k p r all h
+combined_if k p all r false e h = λ g. cc
 
 split : (p : Point) (as' bs : List Made) → AllMeet p (as' ++ bs) → AllMeet p as' × AllMeet p bs
 split p [] bs h = (tt, h)
 split p (a ∷ as') bs h = let q = split p as' bs h.1 in ((h.0, q.0), q.1)
 
-pub made_meets : (k : ℕ) (p : Point) (all rs : List Made) → AllMeet p (made_from k all rs) → AllByRecursion (λ r. Zeros k p r × Pairs k p all r) rs
-made_meets k p all [] h = tt
-made_meets k p all (r ∷ rs) h =
-    let q = split p (made_of k all r) (made_from k all rs) h in
-    (made_if k p all r (is_zero (factor r k)) (is_positive (factor r k)) refl refl q.0, made_meets k p all rs q.1)
+parts_meet : (k : ℕ) (p : Point) (all rs : List Made) → AllMeet p (flat (kept_of k) rs) → AllMeet p (flat (combined_of k all) rs) → AllByRecursion (λ r. Zeros k p r × Pairs k p all r) rs
+parts_meet k p all [] h g = tt
+parts_meet k p all (r ∷ rs) h g =
+    let a = split p (kept_of k r) (flat (kept_of k) rs) h in
+    let b = split p (combined_of k all r) (flat (combined_of k all) rs) g in
+    ((kept_if k p r (is_zero (factor r k)) refl a.0, combined_if k p all r (is_positive (factor r k)) refl b.0), parts_meet k p all rs a.1 b.1)
+
+made_meets : (k : ℕ) (p : Point) (rs : List Made) → AllMeet p (eliminated k rs) → AllByRecursion (λ r. Zeros k p r × Pairs k p rs r) rs
+made_meets k p rs h = let q = split p (flat (kept_of k) rs) (flat (combined_of k rs) rs) h in parts_meet k p rs rs q.0 q.1
 
 neg_mul : (a b : ℤ) → neg_ℤ a *ℤ b ≡ neg_ℤ (a *ℤ b)
 neg_mul a b = mul_comm (neg_ℤ a) b ∙ mul_neg b a ∙ ap neg_ℤ (mul_comm b a)
 
 positive_suc : (n : ℕ) → is_positive (pos (suc n)) ≡ true
 positive_suc n = grind (arith, ints)
-
-zero_suc : (n : ℕ) → is_zero (pos (suc n)) ≡ false
-zero_suc n = grind (arith, ints)
 
 signs : {P : Type 0} (c : ℤ) → (is_zero c ≡ true → P) → (is_positive c ≡ true → P) → (is_positive (neg_ℤ c) ≡ true → P) → P
 signs (pos zero) a b c = a refl
@@ -95,11 +99,6 @@ signs (negsuc n) a b c = c (positive_suc n)
 
 abbrev pub Most : ℕ → Point → Bound → Made → Type 0
 Most k p b n = is_positive (neg_ℤ (factor n k)) ≡ true → pos 0 ≤ℤ (b.weight *ℤ numerator n.row p +ℤ factor n k *ℤ b.number)
-
-not_zero : (c : ℤ) → is_positive c ≡ true → is_zero c ≡ false
-not_zero (pos zero) h = cc
-not_zero (pos (suc n)) h = zero_suc n
-not_zero (negsuc n) h = refl
 
 most_one : (k : ℕ) (p : Point) (r n : Made) → Pair k p r n → Most k p (bound_of false k p r) n
 most_one k p r n h e =
@@ -114,7 +113,7 @@ most_all k p r (n ∷ ns) h = (most_one k p r n h.0, most_all k p r ns h.1)
 
 most_given : (k : ℕ) (p : Point) (all rs : List Made) → AllByRecursion (λ r. Zeros k p r × Pairs k p all r) rs → AllByRecursion (Gives false k p (λ b. AllByRecursion (Most k p b) all)) rs
 most_given k p all [] h = tt
-most_given k p all (r ∷ rs) h = (λ e. most_all k p r all (h.0.1 (not_zero (factor r k) e) e), most_given k p all rs h.1)
+most_given k p all (r ∷ rs) h = (λ e. most_all k p r all (h.0.1 e), most_given k p all rs h.1)
 
 module _ (k : ℕ) (p : Point) (lt : k < length p.numerators) (free : get_or p.numerators k (pos 0) ≡ pos 0) where
   met : (t : Bool) (b : Bound) (r : Made) → pos 0 ≤ℤ (b.weight *ℤ numerator r.row p +ℤ factor r k *ℤ turned t b.number) → IsMetAt (placed_at t k p b) r
@@ -168,4 +167,4 @@ module _ (k : ℕ) (p : Point) (lt : k < length p.numerators) (free : get_or p.n
   by_bounds rs None None e g h = free_all rs rs h (greatest_none false k p rs e) (greatest_none true k p rs g)
 
   pub placed_meets : (rs : List Made) → AllMeet p (eliminated k rs) → AllMeet (placed k rs p) rs
-  placed_meets rs h = by_bounds rs (greatest false k p None rs) (greatest true k p None rs) refl refl (made_meets k p rs rs h)
+  placed_meets rs h = by_bounds rs (greatest false k p None rs) (greatest true k p None rs) refl refl (made_meets k p rs h)

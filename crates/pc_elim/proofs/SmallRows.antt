@@ -82,4 +82,4 @@ pub eliminated_within : (m n k : ℕ) (rs : List Made) → m ≤ n → m * m + m
 eliminated_within m n k rs le le' h = made_all k (MadeWithin m) (MadeWithin n)
     (λ r g _. made_more m n r le g)
     (λ p q a b _ _. made_more (m * m + m * m) n (combine k p q) le' (combine_within m k p q a b))
-    rs rs h h
+    rs h

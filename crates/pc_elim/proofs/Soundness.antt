@@ -114,7 +114,7 @@ pub eliminated_good : (base : List Linear) (w k : ℕ) (rs : List Made) → AllB
 eliminated_good base w k rs h = made_all k (Good base w k) (Good base w (suc k))
     (λ r g e. (g.0, kept_freed w k r g.1 e))
     (λ p n a b x y. (combine_carries base k p n x y a.0 b.0, pair_freed w k p n a.1 b.1))
-    rs rs h h
+    rs h
 
 no_variable : (cs : List ℤ) → ((j : ℕ) → j < length cs → get_or cs j (pos 0) ≡ pos 0) → list_all is_zero cs ≡ true
 no_variable [] h = refl

@@ -127,7 +127,7 @@ calm_if : (w n k l : ℕ) (rs : List Made) (t : Bool) → has_variable k rs ≡ 
     l ≤ 3 → one_if t + remaining n (suc k) rs ≤ l → AllByRecursion (MadeWithin (entry l)) rs → length rs ≤ room l → Calm w (suc n) k rs × OutWithin (size l) (settle w (suc n) k rs)
 calm_if w n k l rs false o e long rec le occ h many =
     let free = all_free k rs o in
-    let same = free_made k rs rs free in
+    let same = free_made k rs free in
     let ih = rec l rs le (omega arith) h many in
     let ih2 = subst (λ (z : List Made). Calm w n (suc k) z × OutWithin (size l) (settle w n (suc k) z)) (sym same) ih in
     let b = back_free (size l) k rs (settle w n (suc k) (eliminated k rs)) free ih2.1 in

@@ -1,5 +1,5 @@
 -- Fourier-Motzkin elimination: a variable goes from rows by the combinations of two rows in which it has opposite signs.
-use Rattle.std.specs.Prelude.{◌≡◌, ℕ, zero, ◌+◌, ℤ, pos, neg_ℤ, ◌≤ℤ◌, int_lt, Bool, not, List, [], ◌∷◌, ◌++◌, slice_set, replicate, if◌then◌else◌}
+use Rattle.std.specs.Prelude.{◌≡◌, ℕ, zero, suc, ◌+◌, ℤ, pos, neg_ℤ, ◌≤ℤ◌, int_lt, Bool, not, List, [], ◌∷◌, ◌++◌, slice_set, slice_index_or, replicate, if◌then◌else◌}
 use Rattle.std.specs.List.{AllByRecursion, list_any}
 use Rattle.pc_rows.specs.Linear.{Linear, add_lists, scale_list, sum_of, scaled_by, coefficient, is_zero}
 use Rattle.pc_rows.specs.Shows.{nothing_row}
@@ -38,17 +38,36 @@ pair_of k p n = if is_positive (neg_ℤ (factor n k)) then (combine k p n ∷ []
 abbrev pub with_each : ℕ → Made → List Made → List Made
 with_each k p ns = flat (pair_of k p) ns
 
--- a row without the variable stays; one with a positive factor is combined with each that has a negative one
-abbrev pub made_of : ℕ → List Made → Made → List Made
-made_of k all r = if is_zero (factor r k) then (r ∷ []) else if is_positive (factor r k) then with_each k r all else []
+-- a row without the variable is kept
+abbrev pub kept_of : ℕ → Made → List Made
+kept_of k r = if is_zero (factor r k) then (r ∷ []) else []
 
--- what is made of the rows rs with all rows
-abbrev pub made_from : ℕ → List Made → List Made → List Made
-made_from k all rs = flat (made_of k all) rs
+-- a row with a positive factor is combined with each that has a negative one
+abbrev pub combined_of : ℕ → List Made → Made → List Made
+combined_of k all r = if is_positive (factor r k) then with_each k r all else []
 
--- the rows without variable k, which a point can be made to meet exactly where it can be made to meet the rows
+-- the rows without variable k, which a point can be made to meet exactly where it can be made to meet the rows: those that do not have it, and then the combinations
 abbrev pub eliminated : ℕ → List Made → List Made
-eliminated k rs = made_from k rs rs
+eliminated k rs = flat (kept_of k) rs ++ flat (combined_of k rs) rs
+
+-- the rows without the first k variables
+abbrev pub level : ℕ → List Made → List Made
+level zero rs = rs
+level (suc k) rs = eliminated k (level k rs)
+
+-- the place of a row in which variable k has a negative factor
+abbrev pub place_of : ℕ → ℕ → Made → List ℕ
+place_of k i r = if is_positive (neg_ℤ (factor r k)) then (i ∷ []) else []
+
+-- the places of these rows, counted from i on
+abbrev pub places_below : ℕ → ℕ → List Made → List ℕ
+places_below k i [] = []
+places_below k i (r ∷ rs) = place_of k i r ++ places_below k (i + 1) rs
+
+-- the combinations of p with the rows at these places
+abbrev pub combined_at : ℕ → Made → List Made → List ℕ → List Made
+combined_at k p all [] = []
+combined_at k p all (i ∷ places) = combine k p (slice_index_or all i p) ∷ combined_at k p all places
 
 -- some row has the variable
 abbrev pub has_variable : ℕ → List Made → Bool

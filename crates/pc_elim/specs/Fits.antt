@@ -1,5 +1,5 @@
 -- What has to be in range, and how many rows there may be, for a system to be settled.
-use Rattle.std.specs.Prelude.{◌≡◌, ◌++◌, ◌+◌, ◌<◌, ◌≤◌, ℕ, suc, zero, ℤ, ◌*ℤ◌, neg_ℤ, Bool, true, false, List, [], ◌∷◌, Option, Some, None, Result, Ok, Err, length}
+use Rattle.std.specs.Prelude.{◌≡◌, ◌++◌, ◌<◌, ◌≤◌, ℕ, suc, zero, ℤ, ◌+ℤ◌, ◌*ℤ◌, neg_ℤ, Bool, true, false, List, [], ◌∷◌, Option, Some, None, Result, Ok, Err, length}
 use Rattle.std.specs.List.{AllByRecursion}
 use Rattle.pc_rows.specs.Linear.{Linear, InRange, AllInRange, IsInRange, scale_list, sum_of, scaled_by}
 use Rattle.pc_rows.specs.Evidence.{Point}
@@ -9,7 +9,7 @@ use Rattle.pc_elim.specs.declared.settle.Found.TheVariants.{Shown, At}
 use Rattle.pc_elim.specs.declared.made.Fault.{Fault}
 use Rattle.pc_elim.specs.declared.made.Fault.TheVariants.{Past, Full, NoMemory}
 use Rattle.pc_elim.specs.declared.made.TheConstants.{LIMIT}
-use Rattle.pc_elim.specs.Elimination.{Made, Bound, is_positive, factor, weigh, eliminated}
+use Rattle.pc_elim.specs.Elimination.{Made, Bound, is_positive, factor, weigh, eliminated, level}
 use Rattle.pc_elim.specs.Placing.{bound_of, turned, next_bound, greatest}
 use Rattle.pc_elim.specs.Settling.{settle}
 
@@ -25,6 +25,12 @@ pub record WeighFits (b : ℤ) (p : List ℤ) (a : ℤ) (n : List ℤ) : Type 0 
   pub right : AllInRange (scale_list a n)
   pub sum : AllInRange (weigh b p a n)
 
+-- the constant alone
+pub record ConstantFits (b c a d : ℤ) : Type 0 where
+  pub left : InRange (b *ℤ c)
+  pub right : InRange (a *ℤ d)
+  pub sum : InRange (b *ℤ c +ℤ a *ℤ d)
+
 -- all that is computed for a combination
 pub record CombineFits (k : ℕ) (p n : Made) : Type 0 where
   pub row : RowFits (neg_ℤ (factor n k)) p.row (factor p k) n.row
@@ -38,12 +44,35 @@ PairFits k p n = is_positive (neg_ℤ (factor n k)) ≡ true → CombineFits k p
 abbrev pub AllPairsFit : ℕ → List Made → Made → Type 0
 AllPairsFit k all r = is_positive (factor r k) ≡ true → AllByRecursion (PairFits k r) all
 
--- the items are added, unless a number does not fit, there is no room, or no memory
+-- the items are added, unless a number does not fit, or there is no memory
 abbrev pub Adds : List Made → Type 0 → List Made → Result (Unit {0}) Fault → List Made → Type 0
 Adds items Fits old (Ok u) new = new ≡ old ++ items
 Adds items Fits old (Err Past) new = Fits → ⊥
-Adds items Fits old (Err Full) new = LIMIT < length old + length items
+Adds items Fits old (Err Full) new = ⊥
 Adds items Fits old (Err NoMemory) new = Unit {0}
+
+-- the places are added, unless there is no memory
+abbrev pub PlacesAdded : List ℕ → List ℕ → Result (Unit {0}) Fault → List ℕ → Type 0
+PlacesAdded places old (Ok u) new = new ≡ old ++ places
+PlacesAdded places old (Err Past) new = ⊥
+PlacesAdded places old (Err Full) new = ⊥
+PlacesAdded places old (Err NoMemory) new = Unit {0}
+
+-- how many rows an elimination makes; Full comes exactly where these are too many
+abbrev pub CountIs : ℕ → List Made → Result ℕ Fault → Type 0
+CountIs k rs (Ok count) = (count ≡ length (eliminated k rs)) × (count ≤ LIMIT)
+CountIs k rs (Err Full) = LIMIT < length (eliminated k rs)
+CountIs k rs (Err Past) = ⊥
+CountIs k rs (Err NoMemory) = ⊥
+
+-- all that is computed to eliminate variable k is in range, and there is room for the rows
+abbrev pub EliminationFits : ℕ → List Made → Type 0
+EliminationFits k rs = AllByRecursion (AllPairsFit k rs) rs × length (eliminated k rs) ≤ LIMIT
+
+-- variable after variable
+abbrev pub LevelFits : ℕ → List Made → Type 0
+LevelFits zero rs = Unit {0}
+LevelFits (suc k) rs = LevelFits k rs × EliminationFits k (level k rs)
 
 -- the value, unless what has to be in range is not
 abbrev pub Unless : {A E : Type 0} → Result A E → A → Type 0 → Type 0

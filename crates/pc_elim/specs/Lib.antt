@@ -1,4 +1,5 @@
 pub mod Values
+pub mod Small
 pub mod Elimination
 pub mod Placing
 pub mod Settling

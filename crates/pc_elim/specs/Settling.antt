@@ -1,5 +1,5 @@
 -- Rows are settled by multipliers that make a contradiction of them, or by a point that meets them all.
-use Rattle.std.specs.Prelude.{ℕ, zero, suc, ◌+◌, ℤ, pos, int_lt, Bool, List, [], ◌∷◌, take, replicate, slice_index_or, if◌then◌else◌}
+use Rattle.std.specs.Prelude.{ℕ, zero, suc, ◌+◌, ℤ, pos, int_lt, Bool, List, [], ◌∷◌, Option, Some, None, take, replicate, slice_index_or, if◌then◌else◌}
 use Rattle.pc_rows.specs.declared.proof.Part.{Part}
 use Rattle.pc_rows.specs.Linear.{is_zero}
 use Rattle.pc_rows.specs.Evidence.{Point, Proof}
@@ -16,10 +16,20 @@ origin width = record { numerators = replicate width (pos 0); denominator = pos 
 abbrev pub is_contradiction : Made → Bool
 is_contradiction r = int_lt r.row.constant (pos 0)
 
+-- the multipliers of the first contradiction
+abbrev pub contradiction_of : List Made → Option (List ℤ)
+contradiction_of [] = None
+contradiction_of (r ∷ rs) = if is_contradiction r then Some r.multipliers else contradiction_of rs
+
 -- without variables: the multipliers of the first contradiction, or the origin where there is none
 abbrev pub ended : ℕ → List Made → Found
 ended width [] = At (origin width)
 ended width (r ∷ rs) = if is_contradiction r then Shown r.multipliers else ended width rs
+
+-- the same of what is known of contradictions
+abbrev pub found_by : ℕ → Option (List ℤ) → Found
+found_by width (Some multipliers) = Shown multipliers
+found_by width None = At (origin width)
 
 -- a point is taken back over variable k
 abbrev pub back_over : ℕ → List Made → Found → Found

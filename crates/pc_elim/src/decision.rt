@@ -35,7 +35,7 @@ pub fn decide(alloc: Global, s: &System) -> Result<Answer, NoMemory>
         Err(Past) => return Ok(Answer::Unsettled),
     };
     let rows = started(alloc, s, &negated)?;
-    match settle(alloc, 0, rows.as_slice()) {
+    match settle(alloc, rows.as_slice()) {
         Ok(Found::Shown(multipliers)) => shown(alloc, s, &multipliers),
         Ok(Found::At(p)) => Ok(Answer::Point(p)),
         Err(Fault::NoMemory) => Err(NoMemory),

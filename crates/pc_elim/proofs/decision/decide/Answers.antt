@@ -1,5 +1,5 @@
 use Rattle.std.proofs.Common.{◌∙◌}
-use Rattle.pc_elim.proofs.Deciding.{shown_decides, point_decides, past_not_modest, full_not_modest}
+use Rattle.pc_elim.proofs.Deciding.{started_few, shown_decides, point_decides, past_not_modest, full_not_modest}
 use Rattle.pc_elim.proofs.decision.decide.Goals as goal
 
 pub returns-in-Ok-Shown : goal.returns-in-Ok-Shown
@@ -13,3 +13,6 @@ returns-in-Err-Past c = past_not_modest c.args.s.now c.as_slice.result.now (c.as
 
 pub returns : goal.returns
 returns c = full_not_modest c.args.s.now c.as_slice.result.now (c.as_slice.ensures ∙ c.in_ok-rows.ensures.rows) c.in-Err-Full.field-0 c.in-Err-Full.field-0-is c.in-Err-Full.ensures
+
+pub settle-requires : goal.settle-requires
+settle-requires c = started_few c.args.s.now c.as_slice.result.now (c.as_slice.ensures ∙ c.in_ok-rows.ensures.rows) c.in_ok-rows.ensures.system

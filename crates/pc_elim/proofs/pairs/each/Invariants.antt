@@ -1,6 +1,0 @@
-use Rattle.std.proofs.Common.{◌≡◌, ◌++◌, drop}
-use Rattle.pc_elim.specs.Elimination.{made_of, flat}
-use Rattle.pc_elim.proofs.pairs.each.Given as goal
-
-abbrev pub invariant-loop-r : goal.invariant-loop-r
-invariant-loop-r l = l.out ++ flat (made_of l.k l.all) (drop l.r-index l.all) ≡ l.initial.out ++ flat (made_of l.k l.all) l.all
