@@ -1,0 +1,141 @@
+-- On a tame graph without loops all that is computed for the proofs is in range.
+use Rattle.std.proofs.Common.{◌≡◌, ℕ, zero, suc, ◌+◌, ◌*◌, ◌^◌, ◌<◌, ◌≤◌, ℤ, pos, negsuc, ◌+ℤ◌, ◌-ℤ◌, ◌*ℤ◌, neg_ℤ, List, [], ◌∷◌, ◌++◌, length, get_or, set, refl, sym, ap, subst, ◌∙◌, arith, Bool, true, false, cond, Option, Some, None, inl, inr}
+use Rattle.std.specs.Prelude.{◌⊎◌}
+use Rattle.std.specs.List.{AllByRecursion, find}
+use Rattle.std.proofs.lemmas.Int.{ints}
+use Rattle.pc_rows.specs.Linear.{Linear, InRange, IsInRange, coefficient, is_zero, add_lists, scale_list, negate_list, zero_from, negation}
+use Rattle.pc_rows.specs.Bounds.{IsWithin, AreWithin, Within, AllWithin}
+use Rattle.pc_rows.specs.Joins.{is_at_most}
+use Rattle.pc_rows.specs.Substitution.{carried, substituted, lesser}
+use Rattle.pc_rows.proofs.Bounding.{product_within, sum_within, opposite_within, lesser_within, within_in_range, all_in_range, more_within, scale_within, add_within, negate_within, at_within, set_within, small_substitution_fits}
+use Rattle.pc_rows.proofs.Joining.{each_join}
+use Rattle.pc_syntax.specs.Machine.{end_of}
+use Rattle.pc_graph.specs.declared.what.What.{What}
+use Rattle.pc_graph.specs.declared.what.What.TheVariants.{Enter, Test, Set, Check}
+use Rattle.pc_graph.specs.Arc.{Arc}
+use Rattle.pc_graph.specs.Carry.{BackFits, back, test_rows}
+use Rattle.pc_graph.specs.Flow.{Flow}
+use Rattle.pc_graph.specs.Lists.{AnyOf}
+use Rattle.pc_lower.specs.Annotation.{rows_at, no_rows, is_head, NoHeads}
+use Rattle.pc_lower.specs.Need.{need}
+use Rattle.pc_lower.specs.Tame.{tame_bound, HasTameNumbers, AreTame, IsTame}
+use Rattle.pc_lower.proofs.Paying.{no_head}
+use Rattle.pc_replay.specs.Flaws.{asked}
+use Rattle.pc_certify.specs.Causes.{premises, first_cover, SumIsPast, IsPast, RowFails, EdgeFails, Fails}
+
+-- rows carried back
+
+zeros_within : (m n : ℕ) (zs : List ℤ) → AreWithin m zs → AreWithin m (zero_from n zs)
+zeros_within m n [] h = tt
+zeros_within m zero (z ∷ zs) h = (omega (arith, ints), zeros_within m zero zs h.1)
+zeros_within m (suc n) (z ∷ zs) h = (h.0, zeros_within m n zs h.1)
+
+-- the bound of a row that is carried back, from that of the numbers that it is made of
+abbrev carried_bound : ℕ → ℕ
+carried_bound m = m + m * m + m * m
+
+carried_within : (m : ℕ) (r form : Linear) (x : ℕ) (lo hi : ℤ) → Within m r → Within m form → IsWithin m lo → IsWithin m hi → Within (carried_bound m) (carried r x form lo hi)
+carried_within m r form x lo hi hr hf hl hh =
+    let c = coefficient r x in
+    let hc = at_within m r.coefficients x hr.coefficients in
+    let product = product_within m m c form.constant hc hf.constant in
+    let low = product_within m m c lo hc hl in
+    let high = product_within m m c hi hc hh in
+    let zero_is_within : IsWithin m (pos 0) = omega (arith, ints) in
+    record {
+      constant = sum_within (m + m * m) (m * m) (r.constant +ℤ c *ℤ form.constant) (lesser (c *ℤ lo) (c *ℤ hi))
+          (sum_within m (m * m) r.constant (c *ℤ form.constant) hr.constant product) (lesser_within (m * m) (c *ℤ lo) (c *ℤ hi) low high);
+      coefficients = more_within (m * m + m) (carried_bound m) (add_lists (scale_list c form.coefficients) (set r.coefficients x (pos 0))) (omega arith)
+          (add_within (m * m) m (scale_list c form.coefficients) (set r.coefficients x (pos 0)) (scale_within m m c form.coefficients hc hf.coefficients)
+          (set_within m r.coefficients x (pos 0) hr.coefficients zero_is_within));
+    }
+
+wider : (m n : ℕ) (r : Linear) → m ≤ n → Within m r → Within n r
+wider m n r le h = record { constant = omega (arith, h.constant); coefficients = more_within m n r.coefficients le h.coefficients }
+
+substituted_within : (m : ℕ) (r form : Linear) (x : ℕ) (lo hi : ℤ) (t : Bool) → Within m r → Within m form → IsWithin m lo → IsWithin m hi →
+    Within (carried_bound m) (cond t r (carried r x form lo hi))
+substituted_within m r form x lo hi true hr hf hl hh = wider m (carried_bound m) r (omega arith) hr
+substituted_within m r form x lo hi false hr hf hl hh = carried_within m r form x lo hi hr hf hl hh
+
+back_within : (w : What) (r : Linear) → HasTameNumbers w → Within tame_bound r → Within (carried_bound tame_bound) (back w r)
+back_within (Enter params) r tame h =
+    wider tame_bound (carried_bound tame_bound) (back (Enter params) r) (omega arith) record { constant = h.constant; coefficients = zeros_within tame_bound params r.coefficients h.coefficients }
+back_within (Test own) r tame h = wider tame_bound (carried_bound tame_bound) r (omega arith) h
+back_within (Check own) r tame h = wider tame_bound (carried_bound tame_bound) r (omega arith) h
+back_within (Set x form lo hi) r tame h = substituted_within tame_bound r form x (end_of lo) (end_of hi) (is_zero (coefficient r x)) h tame.0 tame.1 tame.2
+
+back_fits : (w : What) (r : Linear) → HasTameNumbers w → Within tame_bound r → BackFits w r
+back_fits (Enter params) r tame h = tt
+back_fits (Test own) r tame h = tt
+back_fits (Check own) r tame h = tt
+back_fits (Set x form lo hi) r tame h = small_substitution_fits tame_bound r form x (end_of lo) (end_of hi) (omega arith) h tame.0 tame.1 tame.2
+
+-- their negations
+
+negation_within : (m : ℕ) (r : Linear) → Within m r → Within (m + 1) (negation r)
+negation_within m r h =
+    let one : IsWithin 1 (negsuc 0) = omega (arith, ints) in
+    record {
+      constant = sum_within m 1 (neg_ℤ r.constant) (negsuc 0) (opposite_within m r.constant h.constant) one;
+      coefficients = more_within m (m + 1) (negate_list r.coefficients) (omega arith) (negate_within m r.coefficients h.coefficients);
+    }
+
+row_in_range : (m : ℕ) (r : Linear) → m < 2 ^ 127 → Within m r → IsInRange r
+row_in_range m r lt h = (within_in_range m r.constant lt h.constant, all_in_range m r.coefficients lt h.coefficients)
+
+each_found : {A : Type 0} (P : A → Type 0) (p : A → Bool) (xs : List A) (x : A) → AllByRecursion P xs → find p xs ≡ Some x → P x
+each_found P p [] x h e = absurd (cc)
+each_found P p (y ∷ xs) x h e = by (p y) e (λ f. each_found P p xs x h.1 f)
+  where
+    by : (t : Bool) → cond t (Some y) (find p xs) ≡ Some x → (find p xs ≡ Some x → P x) → P x
+    by true e more = let same : y ≡ x = cc in subst P same h.0
+    by false e more = more e
+
+row_holds : (w : What) (rows : List Linear) (r : Linear) → HasTameNumbers w → AllWithin tame_bound rows → Within tame_bound r → RowFails false w rows r → ⊥
+row_holds w rows r tame within h (inl (inl past)) = past (back_fits w r tame h)
+row_holds w rows r tame within h (inl (inr past)) =
+    past (row_in_range (carried_bound tame_bound + 1) (negation (back w r)) (omega arith) (negation_within (carried_bound tame_bound) (back w r) (back_within w r tame h)))
+row_holds w rows r tame within h (inr (a, found, past)) =
+    let negated = (negation_within (carried_bound tame_bound) (back w r) (back_within w r tame h)).constant in
+    let cover = (each_found (Within tame_bound) (λ q. is_at_most q (back w r)) rows a within found).constant in
+    past (within_in_range (carried_bound tame_bound + 1 + tame_bound) ((negation (back w r)).constant +ℤ a.constant) (omega arith)
+    (sum_within (carried_bound tame_bound + 1) tame_bound (negation (back w r)).constant a.constant negated cover))
+
+-- no edge fails
+
+none_of : {A : Type 0} (P Q : A → Type 0) → ((x : A) → Q x → P x → ⊥) → (xs : List A) → AllByRecursion Q xs → AnyOf P xs → ⊥
+none_of P Q f [] h any = any
+none_of P Q f (x ∷ xs) h (inl p) = f x h.0 p
+none_of P Q f (x ∷ xs) h (inr more) = none_of P Q f xs h.1 more
+
+tame_at : (a : List (List Linear)) (p : ℕ) → AllByRecursion AreTame a → AllWithin tame_bound (rows_at a p)
+tame_at [] p h = tt
+tame_at (rows ∷ a) zero h = h.0.numbers
+tame_at (rows ∷ a) (suc p) h = tame_at a p h.1
+
+test_within : (w : What) → HasTameNumbers w → AllWithin tame_bound (test_rows w)
+test_within (Enter params) tame = tt
+test_within (Test own) tame = tame
+test_within (Set x form lo hi) tame = tt
+test_within (Check own) tame = tt
+
+asked_within : (w : What) (rows : List Linear) → HasTameNumbers w → AllWithin tame_bound rows → AllWithin tame_bound (asked w rows)
+asked_within (Enter params) rows tame h = h
+asked_within (Test own) rows tame h = h
+asked_within (Set x form lo hi) rows tame h = h
+asked_within (Check own) rows tame h = each_join (Within tame_bound) own rows tame h
+
+module _ (g : Flow) (none : NoHeads g.points) (tame : IsTame g) where
+  abbrev a : List (List Linear)
+  a = need g (no_rows g.points)
+
+  edge_holds : (e : Arc) → HasTameNumbers e.what → EdgeFails g.points a e → ⊥
+  edge_holds e numbers fails =
+      let rows = each_join (Within tame_bound) (rows_at a e.from) (test_rows e.what) (tame_at a e.from tame.points) (test_within e.what numbers) in
+      none_of (RowFails false e.what (premises a e)) (Within tame_bound) (λ r h. row_holds e.what (premises a e) r numbers rows h) (asked e.what (rows_at a e.to))
+      (asked_within e.what (rows_at a e.to) numbers (tame_at a e.to tame.points))
+      (subst (λ (b : Bool). AnyOf (RowFails b e.what (premises a e)) (asked e.what (rows_at a e.to))) (no_head g.points e.from none) fails)
+
+  pub tame_is_proved : Fails g a → ⊥
+  tame_is_proved fails = none_of (EdgeFails g.points a) (λ e. HasTameNumbers e.what) edge_holds g.edges tame.edges fails

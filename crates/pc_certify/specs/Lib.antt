@@ -1,0 +1,5 @@
+pub mod Lists
+pub mod Causes
+pub mod Proving
+pub mod Claims
+pub mod Inferring

@@ -1,0 +1,13 @@
+//! Proofs of annotations, and the certificate of a graph.
+#![tactic(auto)]
+
+mod annotation;
+mod cover;
+mod edge;
+mod entry;
+mod inference;
+mod lists;
+mod row;
+
+pub use annotation::prove;
+pub use inference::{CANDIDATES, infer};
