@@ -19,3 +19,4 @@ pub mod Rows
 pub mod Lines
 pub mod Growing
 pub mod ShortTexts
+pub mod Saying

@@ -209,6 +209,9 @@ texts_are_short c is kept =
     let g = line_short graph (omega arith, (count_short c.points (omega arith), (count_short c.edges (omega arith), (count_short c.variables (omega arith), tt)))) in
     let middle = flat_map (alternative_lines c.variables) c.alternatives in
     let all = alternatives_short c.points c.edges c.variables c.alternatives is.points is.edges is.each kept.each in
-    omega (arith, lines_join middle ((codes "end" ∷ []) ∷ []),
+    omega (
+      arith,
+      lines_join middle ((codes "end" ∷ []) ∷ []),
       length-append (line_text graph) (lines_text (middle ++ (codes "end" ∷ []) ∷ [])),
-      length-append (line_text (codes "precond" ∷ codes "1" ∷ [])) (line_text graph ++ lines_text (middle ++ (codes "end" ∷ []) ∷ [])))
+      length-append (line_text (codes "precond" ∷ codes "1" ∷ [])) (line_text graph ++ lines_text (middle ++ (codes "end" ∷ []) ∷ [])),
+    )

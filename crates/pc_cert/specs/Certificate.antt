@@ -1,5 +1,5 @@
 -- Certificates, as contracts see them.
-use Rattle.std.specs.Prelude.{ℕ, ◌≡◌, ◌<◌, ◌≤◌, ◌^◌, List, [], ◌∷◌, length, map}
+use Rattle.std.specs.Prelude.{ℕ, ◌≡◌, ◌<◌, ◌≤◌, ◌^◌, List, [], ◌∷◌, length, map, All}
 use Rattle.std.specs.List.{AllByRecursion}
 use Rattle.pc_rows.specs.declared.row.TheConstants.{VARIABLES}
 use Rattle.pc_rows.specs.declared.system.TheConstants.{PREMISES}
@@ -24,6 +24,10 @@ entry_rows (rows ∷ more) = rows
 -- what the certificate says of the entry: that the rows of point 0 of one of its alternatives suffice
 abbrev pub condition_of : Certificate → List (List Linear)
 condition_of c = map (λ a. entry_rows a.rows) c.alternatives
+
+-- the rows of point 0 are there, and over the first n variables
+abbrev pub SaysOf : ℕ → Annotated → Type 0
+SaysOf n a = (0 < length a.rows) × All (IsOver n) (entry_rows a.rows)
 
 -- rows for each point and proofs for each edge, over the variables, and no more proofs for an edge than a system has premises
 pub record IsAnnotation (points : ℕ) (edges : ℕ) (variables : ℕ) (a : Annotated) : Type 0 where

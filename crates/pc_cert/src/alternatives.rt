@@ -1,11 +1,13 @@
 //! The texts of rows that are to hold together, and of conditions.
 
 ghost use Rattle.std.specs.Prelude.{◌≡◌, ◌<◌, ◌++◌, length, All, IfOk, OnOk, OnErr};
-ghost use Rattle.std.specs.List.{flat_map};
+ghost use Rattle.std.specs.List.{flat_map, AllByRecursion};
 ghost use Rattle.pc_cert.specs.Conditions.{rows_text, line_text, condition_text};
 ghost use Rattle.pc_rows.specs.Linear.{InRange, IsOver};
+ghost use Rattle.pc_cert.specs.Certificate.{entry_rows, condition_of, SaysOf};
 ghost use Rattle.pc_cert.specs.Law.{TextDeterminesCondition};
 
+use crate::certificate::{Annotated, Certificate};
 use crate::row::push_row;
 use pc_rows::Rows;
 use pc_text::{Names, NoMemory, Text};
@@ -63,38 +65,39 @@ fn push_line(text: &mut Text, what: &[u8]) -> Result<(), NoMemory>
 fn push_alternative(
     alloc: Global,
     text: &mut Text,
-    rows: &Rows,
+    a: &Annotated,
     names: &Names,
 ) -> Result<(), NoMemory>
-    requires { All (IsOver (length names.now.names)) rows.now }
-    ensures { OnOk result (text.new ≡ text.old ++ line_text (rows_text names.now.names rows.now)) }
+    requires { SaysOf (length names.now.names) a.now }
+    ensures { OnOk result (text.new ≡ text.old ++ line_text (rows_text names.now.names (entry_rows a.now.rows))) }
 {
-    let rows = text_of(alloc, rows, names)?;
+    let rows = text_of(alloc, &a.rows.as_slice()[0], names)?;
     push_line(text, rows.bytes())
 }
 
 /// The lines of alternatives, apart from other texts.
-fn lines(alloc: Global, alternatives: &[Rows], names: &Names) -> Result<Text, NoMemory>
-    requires { All (All (IsOver (length names.now.names))) alternatives.now }
-    ensures { IfOk result (λ text. text ≡ flat_map (λ rows. line_text (rows_text names.now.names rows)) alternatives.now) }
+fn lines(alloc: Global, alternatives: &[Annotated], names: &Names) -> Result<Text, NoMemory>
+    requires { AllByRecursion (SaysOf (length names.now.names)) alternatives.now }
+    ensures { IfOk result (λ text. text ≡ flat_map (λ a. line_text (rows_text names.now.names (entry_rows a.rows))) alternatives.now) }
 {
     let mut text = Text::new(alloc);
-    for rows in alternatives {
-        push_alternative(alloc, &mut text, rows, names)?;
+    for a in alternatives {
+        push_alternative(alloc, &mut text, a, names)?;
     }
     Ok(text)
 }
 
-/// The text of a condition, which holds where all rows of one of its alternatives do.
+/// The text of what a certificate says of the entry: that the rows of point 0 of one of its
+/// alternatives suffice.
 ///
 /// It has a line for each alternative, `suffices: ` and its rows, or the one line `suffices: false`
-/// where there is no alternative.
-pub fn condition(alloc: Global, alternatives: &[Rows], names: &Names) -> Result<Text, NoMemory>
-    requires { All (All (IsOver (length names.now.names))) alternatives.now }
-    ensures { IfOk result (λ text. text ≡ condition_text names.now.names alternatives.now) }
+/// where there is no alternative. Each alternative has a list for point 0, over the names.
+pub fn show_condition(alloc: Global, c: &Certificate, names: &Names) -> Result<Text, NoMemory>
+    requires { AllByRecursion (SaysOf (length names.now.names)) c.now.alternatives }
+    ensures { IfOk result (λ text. text ≡ condition_text names.now.names (condition_of c.now)) }
 {
-    if 0 < alternatives.len() {
-        return lines(alloc, alternatives, names);
+    if 0 < c.alternatives.len() {
+        return lines(alloc, c.alternatives.as_slice(), names);
     }
     let mut text = Text::new(alloc);
     push_line(&mut text, b"false")?;
@@ -110,6 +113,7 @@ pub fn text_determines_condition()
 mod tests {
     use super::*;
     use pc_rows::{Row, RowsFault};
+    use sqlite_items::Items;
     use std::test::Fail;
 
     fn names(alloc: Global) -> Result<Names, NoMemory>
@@ -159,14 +163,36 @@ mod tests {
         Ok(())
     }
 
+    /// An alternative with these rows at point 0.
+    fn alternative(alloc: Global, rows: Rows) -> Result<Annotated, RowsFault>
+        ensures { IfOk result (λ a. (0 < length a.rows) × (entry_rows a.rows ≡ rows)) }
+    {
+        let mut points = Items::new(alloc);
+        if points.push(rows).is_err() {
+            return Err(RowsFault::NoMemory);
+        }
+        Ok(Annotated {
+            rows: points,
+            proofs: Items::new(alloc),
+        })
+    }
+
     #[test]
     fn a_condition_has_a_line_for_each_alternative(rt: HostRuntime) -> Result<(), Fail> {
         let alloc = rt.alloc();
         let names = names(alloc)?;
         let first = rows(alloc, row(alloc, -2, 1, 0), row(alloc, 7, -1, 0))?;
         let second = rows(alloc, row(alloc, 0, -1, 1), row(alloc, -1, 0, 0))?;
-        let both = [first, second];
-        let text = condition(alloc, &both, &names)?;
+        let mut both = Items::new(alloc);
+        both.push(alternative(alloc, first)?)?;
+        both.push(alternative(alloc, second)?)?;
+        let certificate = Certificate {
+            points: 1,
+            edges: 0,
+            variables: 2,
+            alternatives: both,
+        };
+        let text = show_condition(alloc, &certificate, &names)?;
         assert_eq!(rt;
             text.bytes(),
             b"suffices: x - 2 >= 0 && -x + 7 >= 0\nsuffices: -x + cap >= 0 && -1 >= 0\n".as_slice()

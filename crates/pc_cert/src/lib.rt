@@ -18,7 +18,7 @@ mod showing;
 mod tests;
 mod words;
 
-pub use alternatives::{condition, push_rows, text_determines_condition};
+pub use alternatives::{push_rows, show_condition, text_determines_condition};
 pub use certificate::{ALTERNATIVES, Annotated, Certificate, EDGES, POINTS};
 pub use fault::CertFault;
 pub use lengths::texts_are_short;

@@ -1,7 +1,11 @@
-use Rattle.std.proofs.Common.{◌≡◌, take}
-use Rattle.std.specs.List.{flat_map}
+use Rattle.std.proofs.Common.{◌≡◌, length, take, drop}
+use Rattle.std.specs.List.{flat_map, AllByRecursion}
+use Rattle.pc_cert.specs.Certificate.{entry_rows, SaysOf}
 use Rattle.pc_cert.specs.Conditions.{line_text, rows_text}
 use Rattle.pc_cert.proofs.alternatives.lines.Given as goal
 
-abbrev pub invariant-loop-rows : goal.invariant-loop-rows
-invariant-loop-rows l = l.text ≡ flat_map (λ rows. line_text (rows_text l.names.names rows)) (take l.rows-index l.alternatives)
+abbrev pub invariant-loop-a : goal.invariant-loop-a
+invariant-loop-a l = record {
+  text : l.text ≡ flat_map (λ a. line_text (rows_text l.names.names (entry_rows a.rows))) (take l.a-index l.alternatives);
+  left : AllByRecursion (SaysOf (length l.names.names)) (drop l.a-index l.alternatives);
+}
