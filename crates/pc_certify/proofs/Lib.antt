@@ -8,3 +8,4 @@ pub mod Taming
 pub mod Choosing
 pub mod Renewing
 pub mod Reductions
+pub mod Exactness

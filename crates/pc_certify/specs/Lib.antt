@@ -3,3 +3,4 @@ pub mod Causes
 pub mod Proving
 pub mod Claims
 pub mod Inferring
+pub mod Laws

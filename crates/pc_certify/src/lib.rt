@@ -6,8 +6,10 @@ mod cover;
 mod edge;
 mod entry;
 mod inference;
+mod laws;
 mod lists;
 mod row;
 
 pub use annotation::prove;
 pub use inference::{CANDIDATES, infer};
+pub use laws::{infer_is_exact, infer_is_exact_on_graphs, straight_is_loop_free};
