@@ -8,6 +8,9 @@ pub mod EndedLines
 pub mod Repeats
 pub mod Rounds
 pub mod Shown
+pub mod PlainWords
+pub mod Spelled
+pub mod RowSpelling
 pub mod Told
 pub mod Splits
 pub mod Decimals
