@@ -1,41 +1,31 @@
--- A file that was fetched is answered as its bytes are.
-use Rattle.std.proofs.Common.{◌≡◌, ℕ, ◌+◌, ◌≤◌, ◌∙◌, length, take, arith, ap, length-take, refl, Result, Ok, Err, IfOk}
+-- Bytes that were fetched are those of the file.
+use Rattle.std.proofs.Common.{◌≡◌, ℕ, ◌+◌, ◌≤◌, ◌<◌, ◌∙◌, length, take, arith, ap, length-take, refl}
 use Rattle.std.proofs.lemmas.List.{take_all}
 use Rattle.pc_ports.specs.Outside.{Holding, Untold, Nothing, Held, TakenFrom}
-use Rattle.pc_text.specs.declared.text.NoMemory.{NoMemory}
 use Rattle.pc_text.specs.Bytes.{Bytes}
-use Rattle.pc_syntax.specs.declared.program.Program.{Program}
-use Rattle.pc_syntax.specs.Spelling.{Spells}
-use Rattle.pc_app.specs.declared.answer.Answer.{Answer}
-use Rattle.pc_app.specs.declared.limits.TheConstants.{SOURCE_BYTES}
-use Rattle.pc_app.specs.Answers.{SourceAnswers, ProgramAnswers, FileAnswers}
-use Rattle.pc_app.specs.Answers.SourceAnswers.{IsTooLong, IsFaulty, IsSpelled}
+use Rattle.pc_app.specs.declared.status.TheConstants.{TOO_LONG}
+use Rattle.pc_app.specs.Answers.{FileAnswers}
+use Rattle.pc_app.specs.Answers.FileAnswers.{IsTooLong}
+use Rattle.pc_app.specs.Reading.{HasBytes}
 
 -- a front that is short enough is all of the bytes
-whole : (bytes taken : Bytes) → taken ≡ take (SOURCE_BYTES + 1) bytes → length taken ≤ SOURCE_BYTES → taken ≡ bytes
-whole bytes taken e short =
-    let size = ap length e ∙ length-take (SOURCE_BYTES + 1) bytes in
-    let most : length bytes ≤ SOURCE_BYTES + 1 = omega arith in
-    e ∙ take_all (SOURCE_BYTES + 1) bytes most
+whole : (limit : ℕ) (bytes taken : Bytes) → taken ≡ take (limit + 1) bytes → length taken ≤ limit → taken ≡ bytes
+whole limit bytes taken e short =
+    let size = ap length e ∙ length-take (limit + 1) bytes in
+    let most : length bytes ≤ limit + 1 = omega arith in
+    e ∙ take_all (limit + 1) bytes most
 
--- bytes that are answered as a front of others that was taken, where it is all of them or both are too long
-front_answers : (bytes taken : Bytes) (status : ℕ) (text : Bytes) → taken ≡ take (SOURCE_BYTES + 1) bytes → SourceAnswers taken status text → SourceAnswers bytes status text
-front_answers bytes taken status text e (IsTooLong long s t) =
-    let size = ap length e ∙ length-take (SOURCE_BYTES + 1) bytes in
-    IsTooLong (omega arith) s t
-front_answers bytes taken status text e (IsFaulty short f faulty s t) =
-    let same = whole bytes taken e short in
-    IsFaulty (rw same at short) f (rw same at faulty) s t
-front_answers bytes taken status text e (IsSpelled short p spells answers) =
-    let same = whole bytes taken e short in
-    IsSpelled (rw same at short) p (rw same at spells) answers
+pub has_bytes : (limit : ℕ) (held : Holding) (taken : Bytes) → TakenFrom held limit taken → length taken ≤ limit → HasBytes limit held taken
+has_bytes limit Untold taken from short = record { holds = tt; short = short }
+has_bytes limit Nothing taken from short = absurd from
+has_bytes limit (Held bytes) taken from short = record { holds = whole limit bytes taken from short; short = short }
 
-pub file_answers : (held : Holding) (taken : Bytes) (status : ℕ) (text : Bytes) → TakenFrom held SOURCE_BYTES taken → SourceAnswers taken status text → FileAnswers held status text
-file_answers Untold taken status text from answers = record { bytes = taken; held_bytes = tt; answers = answers }
-file_answers Nothing taken status text from answers = absurd from
-file_answers (Held bytes) taken status text from answers = record { bytes = bytes; held_bytes = refl; answers = front_answers bytes taken status text from answers }
-
--- a program is answered as the source is that spells it
-pub spelled_answers : (bytes : Bytes) (p : Program) → length bytes ≤ SOURCE_BYTES → Spells bytes p → (r : Result Answer NoMemory) → IfOk r (λ a. ProgramAnswers p a.status a.text) → IfOk r (λ a. SourceAnswers bytes a.status a.text)
-spelled_answers bytes p short spells (Ok a) answers = IsSpelled short p spells answers
-spelled_answers bytes p short spells (Err e) answers = tt
+-- a front that is too long is that of a file that is too long
+pub is_too_long :
+    (limit : ℕ) (long : Bytes) (A : Bytes → ℕ → Bytes → Type 0) (held : Holding) (taken : Bytes) (status : ℕ) (text : Bytes) →
+    TakenFrom held limit taken → limit < length taken → status ≡ TOO_LONG → text ≡ long → FileAnswers limit long A held status text
+is_too_long limit long A Untold taken status text from more s t = IsTooLong taken tt more s t
+is_too_long limit long A Nothing taken status text from more s t = absurd from
+is_too_long limit long A (Held bytes) taken status text from more s t =
+    let size = ap length from ∙ length-take (limit + 1) bytes in
+    IsTooLong bytes refl (omega arith) s t

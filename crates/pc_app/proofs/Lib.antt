@@ -1,9 +1,12 @@
 pub mod LineLaws
 pub mod WordLemmas
 pub mod FileLemmas
-pub mod CommandLemmas
+pub mod OrderLemmas
 pub mod TextLemmas
+pub mod ScriptLemmas
+pub mod VerdictLemmas
 pub mod AnswerLemmas
+pub mod OnlyLemmas
 pub mod EndLemmas
 pub mod NeedLemmas
 pub mod StmtLemmas

@@ -2,10 +2,12 @@ pub mod Line
 pub mod Tame
 pub mod Words
 pub mod Texts
+pub mod Verdicts
 pub mod Inferred
 pub mod Built
 pub mod Answers
 pub mod Silences
+pub mod Reading
 pub mod Promises
 pub mod Ready
 pub mod Needed

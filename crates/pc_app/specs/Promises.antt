@@ -1,15 +1,20 @@
 -- What the top call promises, by its words, by what the store tells and what the sink tells, and by their counts of faults.
-use Rattle.std.specs.Prelude.{◌≡◌, ◌≢◌, ℕ, true, Option, List}
+use Rattle.std.specs.Prelude.{◌≡◌, ◌≢◌, ◌⊎◌, ℕ, true, Option, List, [], ◌∷◌, length, Ok}
 use Rattle.pc_ports.specs.Outside.{Holding, Untold, Nothing, Held, Rose, Appended, FrontAppended}
 use Rattle.pc_rows.specs.Linear.{Linear}
 use Rattle.pc_text.specs.Bytes.{Bytes}
 use Rattle.pc_syntax.specs.declared.program.Program.{Program}
 use Rattle.pc_syntax.specs.Spelling.{Spells}
 use Rattle.pc_cert.specs.Conditions.{condition_text}
-use Rattle.pc_app.specs.declared.status.TheConstants.{STORE_FAILED, SINK_FAILED, NO_MEMORY}
+use Rattle.pc_runner.specs.Runs.{SaysOf}
+use Rattle.pc_runner.specs.Scripts.{Choosing, script_of}
+use Rattle.pc_runner.specs.declared.verdict.Verdict.{Verdict}
+use Rattle.pc_app.specs.declared.status.TheConstants.{DONE, VIOLATED, PAST, STORE_FAILED, SINK_FAILED, NO_MEMORY}
 use Rattle.pc_app.specs.Line.{is_line}
 use Rattle.pc_app.specs.Tame.{IsTame}
 use Rattle.pc_app.specs.Inferred.{IsCondition, Suffices, IsNeeded}
+use Rattle.pc_app.specs.Words.{Order, IsOrder, files_of}
+use Rattle.pc_app.specs.Verdicts.{verdict_status, verdict_text}
 use Rattle.pc_app.specs.Answers.{Answers}
 use Rattle.pc_app.specs.Silences.{LacksFile}
 
@@ -26,6 +31,21 @@ pub record PrintedSuffices (bytes : Bytes) (old new : Option Bytes) : Type 0 whe
 pub record PrintedIsExact (bytes : Bytes) (old new : Option Bytes) : Type 0 where
   pub suffices : PrintedSuffices bytes old new
   pub needed : is_line suffices.program.body ≡ true → IsTame suffices.program.body → IsNeeded suffices.program suffices.condition
+
+-- the bytes of a source spell a program, those of a script are one for it; the status and what was appended are those of the verdict on the machine's run
+pub record PrintedVerdict (source script : Bytes) (status : ℕ) (old new : Option Bytes) : Type 0 where
+  pub program : Program
+  pub spelled : Spells source program
+  pub choosing : Choosing
+  pub means : script_of program.names.params script ≡ Ok choosing
+  pub verdict : Verdict
+  pub says : SaysOf program choosing.entry choosing.choices verdict
+  pub status_is : status ≡ verdict_status verdict
+  pub printed : Appended old new (verdict_text program.names.names (length choosing.choices) verdict)
+
+-- the status of a verdict
+abbrev pub IsVerdict : ℕ → Type 0
+IsVerdict status = (status ≡ DONE) ⊎ ((status ≡ VIOLATED) ⊎ (status ≡ PAST))
 
 -- a promise on the bytes that are held, where that is told
 abbrev pub OfBytes : (Bytes → Type 0) → Holding → Type 0
@@ -50,6 +70,21 @@ pub record IsCutOff (words : List Bytes) (held : Bytes → Holding) (old new : O
   pub answers : Answers words held status text
   pub front : FrontAppended old new text
   pub cause : Rose before now
+
+-- an answer was written, whole, or in part where the sink failed
+pub data IsWritten (answered : ℕ) (text : Bytes) (old new : Option Bytes) (before now status : ℕ) : Type 0 where
+  IsWhole : status ≡ answered → Appended old new text → IsWritten answered text old new before now status
+  IsFront : status ≡ SINK_FAILED → FrontAppended old new text → Rose before now → IsWritten answered text old new before now status
+
+-- it is told whether the store holds the files that are named, and what
+abbrev pub AreTold : (Bytes → Holding) → List Bytes → Type 0
+AreTold held [] = Unit {0}
+AreTold held (name ∷ names) = (held name ≢ Untold) × AreTold held names
+
+-- no other status answers the words, where the files that they name are told
+abbrev pub IsOnlyStatus : List Bytes → (Bytes → Holding) → ℕ → Type 0
+IsOnlyStatus words held status =
+    (other : ℕ) (text : Bytes) → Answers words held other text → ((order : Order) → IsOrder words order → AreTold held (files_of order)) → other ≡ status
 
 -- how a call ends
 pub data Ends (words : List Bytes) (held : Bytes → Holding) (old new : Option Bytes) (store_before store_now sink_before sink_now status : ℕ) : Type 0 where

@@ -1,16 +1,21 @@
 -- The lines that tell what kept a command from its output.
-use Rattle.std.specs.Prelude.{◌++◌, ℤ, pos, [], codes}
+use Rattle.std.specs.Prelude.{◌++◌, ℕ, ℤ, pos, [], codes}
 use Rattle.pc_text.specs.declared.place.Place.{Place}
 use Rattle.pc_text.specs.Numerals.{numeral}
 use Rattle.pc_text.specs.Bytes.{Bytes}
 use Rattle.pc_syntax.specs.declared.fault.SourceFault.{SourceFault}
 use Rattle.pc_syntax.specs.declared.fault.SourceFault.TheVariants as fault
+use Rattle.pc_runner.specs.declared.fault.ScriptFault.{ScriptFault}
+use Rattle.pc_runner.specs.declared.fault.ScriptFault.TheVariants as script
 
 abbrev pub usage : Bytes
-usage = codes "usage: precond infer F\n"
+usage = codes "usage: precond infer F\n       precond run F S\n"
 
 abbrev pub source_too_long : Bytes
 source_too_long = codes "too long: source\n"
+
+abbrev pub script_too_long : Bytes
+script_too_long = codes "too long: script\n"
 
 -- a place as line and column
 abbrev pub place_text : Place → Bytes
@@ -45,3 +50,18 @@ refused why = codes "source: " ++ why ++ codes "\n"
 -- what is told of a program that is not analysed yet, with the place of the first statement that keeps it from being
 abbrev pub not_built : Place → Bytes
 not_built p = codes "not-built " ++ place_text p
+
+abbrev pub line_text : ℕ → Bytes
+line_text n = codes "line " ++ numeral (pos n)
+
+-- what is told of a faulty script (want of memory is no fault of it)
+abbrev pub script_fault_text : ScriptFault → Bytes
+script_fault_text (script.Form n) = codes "form " ++ line_text n
+script_fault_text (script.Number n) = codes "number " ++ line_text n
+script_fault_text (script.Values given wanted) = codes "values" ++ also (pos given) ++ codes " wanted" ++ also (pos wanted)
+script_fault_text (script.Many n) = codes "many " ++ line_text n
+script_fault_text script.NoMemory = []
+
+-- the line of a faulty script
+abbrev pub malformed : ScriptFault → Bytes
+malformed f = codes "script: " ++ script_fault_text f ++ codes "\n"

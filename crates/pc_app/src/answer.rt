@@ -1,17 +1,20 @@
 //! What words are answered: a status and the whole text.
 
-ghost use Rattle.std.specs.Prelude.{◌≡◌, ℕ, List, map, string_bytes, IfOk, IfErr};
-ghost use Rattle.pc_app.specs.Answers.{Answers, CommandAnswers, FileAnswers, SourceAnswers, ProgramAnswers};
-ghost use Rattle.pc_app.specs.Silences.{IsSilent, CommandIsSilent, FileIsSilent};
+ghost use Rattle.std.specs.Prelude.{◌≡◌, ◌≤◌, ℕ, List, map, string_bytes, IfOk, IfErr};
+ghost use Rattle.pc_app.specs.Answers.{InferAnswers, OrderAnswers};
+ghost use Rattle.pc_app.specs.Reading.{OrderIs, RunIs, WordsAre};
+ghost use Rattle.pc_app.specs.Words.{Infer, Run, ordered};
 
-use crate::limits::SOURCE_BYTES;
+use crate::files::{script_in, source_in};
 use crate::line::{alternatives_of, first_not_built};
-use crate::refusal::{refusal_at, refusal_of};
-use crate::status::{DONE, REFUSED, TOO_LONG, USAGE};
+use crate::refusal::refusal_at;
+use crate::status::{DONE, REFUSED, USAGE};
+use crate::verdict::answer_of_verdict;
 use crate::words::{Command, command_of};
 use pc_cert::condition;
-use pc_ports::{FetchFault, Store};
-use pc_syntax::{Program, SourceFault, read};
+use pc_ports::Store;
+use pc_runner::run;
+use pc_syntax::Program;
 use pc_text::{NoMemory, Text};
 use std::alloc::Global;
 
@@ -22,22 +25,24 @@ pub(crate) struct Answer {
     pub(crate) text: Text,
 }
 
-/// Why there is no answer.
-#[derive(Clone, Copy)]
-pub(crate) enum Silence {
+/// Why a call goes no further.
+#[derive(Drop)]
+pub(crate) enum Stop {
+    /// What a file holds is refused, and this is the answer.
+    Refused(Answer),
     /// A file could not be read, or the store tells that it lacks it.
     Store,
     /// There was no memory.
     Memory,
 }
 
-impl From<NoMemory> for Silence {
-    ghost use Rattle.pc_app.specs.declared.answer.Silence.TheVariants.{Memory};
+impl From<NoMemory> for Stop {
+    ghost use Rattle.pc_app.specs.declared.answer.Stop.TheVariants.{Memory};
 
     ghost from_gives = { λ _ e. e ≡ Memory };
 
-    fn from(_: NoMemory) -> Silence {
-        Silence::Memory
+    fn from(_: NoMemory) -> Stop {
+        Stop::Memory
     }
 }
 
@@ -46,14 +51,17 @@ pub(crate) fn answer_to_words<S: Store>(
     alloc: Global,
     words: &[String],
     store: &mut S,
-) -> Result<Answer, Silence>
-    ensures answered { IfOk result (λ a. Answers (map string_bytes words.now) (S.holding store.old) a.status a.text) }
-    ensures silent { IfErr result (λ e. IsSilent (map string_bytes words.now) (S.holding store.old) (S.faults store.old) (S.faults store.new) e) }
+) -> Result<Answer, Stop>
+    ensures answered { WordsAre (map string_bytes words.now) (S.holding store.old) (S.faults store.old) (S.faults store.new) result }
     ensures kept { (name : List ℕ) → S.holding store.new name ≡ S.holding store.old name }
 {
     match command_of(words) {
         Some(command) => answer_to_command(alloc, command, store),
-        None => Ok(one_line(alloc, USAGE, b"usage: precond infer F\n")?),
+        None => Ok(one_line(
+            alloc,
+            USAGE,
+            b"usage: precond infer F\n       precond run F S\n",
+        )?),
     }
 }
 
@@ -62,49 +70,28 @@ fn answer_to_command<S: Store>(
     alloc: Global,
     command: Command<'_>,
     store: &mut S,
-) -> Result<Answer, Silence>
-    ensures answered { IfOk result (λ a. CommandAnswers (S.holding store.old) a.status a.text command.entry) }
-    ensures silent { IfErr result (λ e. CommandIsSilent (S.holding store.old) (S.faults store.old) (S.faults store.new) e command.entry) }
+) -> Result<Answer, Stop>
+    ensures answered { OrderIs (S.holding store.old) (S.faults store.old) (S.faults store.new) (ordered command.entry) result }
     ensures kept { (name : List ℕ) → S.holding store.new name ≡ S.holding store.old name }
 {
     match command {
-        Command::Infer { source } => answer_to_file(alloc, source, store),
+        Command::Infer { source } => answer_to_infer(alloc, source, store),
+        Command::Run { source, script } => answer_to_run(alloc, source, script, store),
     }
 }
 
-/// The answer to `infer` on the file of this name.
-fn answer_to_file<S: Store>(alloc: Global, source: &str, store: &mut S) -> Result<Answer, Silence>
-    ensures answered { IfOk result (λ a. FileAnswers (S.holding store.old source.now) a.status a.text) }
-    ensures silent { IfErr result (λ e. FileIsSilent (S.holding store.old source.now) (S.faults store.old) (S.faults store.new) e) }
+/// The answer to `infer`.
+fn answer_to_infer<S: Store>(alloc: Global, source: &str, store: &mut S) -> Result<Answer, Stop>
+    ensures answered { OrderIs (S.holding store.old) (S.faults store.old) (S.faults store.new) (Infer source.now) result }
     ensures kept { (name : List ℕ) → S.holding store.new name ≡ S.holding store.old name }
 {
-    match store.fetch(alloc, source, SOURCE_BYTES) {
-        Ok(bytes) => Ok(answer_to_source(alloc, bytes.as_slice())?),
-        Err(FetchFault::NoMemory) => Err(Silence::Memory),
-        Err(FetchFault::Failed | FetchFault::Missing) => Err(Silence::Store),
-    }
-}
-
-/// The answer to `infer` on the bytes of a source.
-fn answer_to_source(alloc: Global, bytes: &[u8]) -> Result<Answer, NoMemory>
-    ensures { IfOk result (λ a. SourceAnswers bytes.now a.status a.text) }
-{
-    if bytes.len() > SOURCE_BYTES {
-        return one_line(alloc, TOO_LONG, b"too long: source\n");
-    }
-    match read(alloc, bytes) {
-        Ok(program) => answer_to_program(alloc, &program),
-        Err(SourceFault::NoMemory) => Err(NoMemory),
-        Err(fault) => Ok(Answer {
-            status: REFUSED,
-            text: refusal_of(alloc, fault)?,
-        }),
-    }
+    let program = source_in(alloc, source, store)?;
+    Ok(infer_program(alloc, &program)?)
 }
 
 /// The answer to `infer` on a program.
-fn answer_to_program(alloc: Global, program: &Program) -> Result<Answer, NoMemory>
-    ensures { IfOk result (λ a. ProgramAnswers program.now a.status a.text) }
+fn infer_program(alloc: Global, program: &Program) -> Result<Answer, NoMemory>
+    ensures { IfOk result (λ a. InferAnswers program.now a.status a.text) }
 {
     if let Some(place) = first_not_built(program.body.as_slice()) {
         return Ok(Answer {
@@ -119,8 +106,38 @@ fn answer_to_program(alloc: Global, program: &Program) -> Result<Answer, NoMemor
     })
 }
 
+/// The answer to `run`.
+fn answer_to_run<S: Store>(
+    alloc: Global,
+    source: &str,
+    script: &str,
+    store: &mut S,
+) -> Result<Answer, Stop>
+    ensures answered { OrderIs (S.holding store.old) (S.faults store.old) (S.faults store.new) (Run source.now script.now) result }
+    ensures kept { (name : List ℕ) → S.holding store.new name ≡ S.holding store.old name }
+{
+    let program = source_in(alloc, source, store)?;
+    run_program(alloc, &program, script, store)
+}
+
+/// The answer to `run` on a program.
+fn run_program<S: Store>(
+    alloc: Global,
+    program: &Program,
+    script: &str,
+    store: &mut S,
+) -> Result<Answer, Stop>
+    ensures answered { RunIs program.now (S.holding store.old script.now) (S.faults store.old) (S.faults store.new) result }
+    ensures counted { S.faults store.old ≤ S.faults store.new }
+    ensures kept { (name : List ℕ) → S.holding store.new name ≡ S.holding store.old name }
+{
+    let script = script_in(alloc, script, program.names.params(), store)?;
+    let verdict = run(alloc, program, &script)?;
+    Ok(answer_of_verdict(alloc, &program.names, script.choices.len(), &verdict)?)
+}
+
 /// The answer that is this line.
-fn one_line(alloc: Global, status: u8, line: &[u8]) -> Result<Answer, NoMemory>
+pub(crate) fn one_line(alloc: Global, status: u8, line: &[u8]) -> Result<Answer, NoMemory>
     ensures { IfOk result (λ a. (a.status ≡ status) × (a.text ≡ line.now)) }
 {
     let mut text = Text::new(alloc);

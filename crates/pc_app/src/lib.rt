@@ -2,16 +2,21 @@
 #![tactic(auto)]
 
 mod answer;
+mod files;
 mod limits;
 mod line;
 mod need;
 mod refusal;
+mod script;
 mod service;
 mod status;
 #[cfg(test)]
 mod tests;
+mod verdict;
 mod words;
 
-pub use limits::{ALTERNATIVES, SOURCE_BYTES};
+pub use limits::{ALTERNATIVES, SCRIPT_BYTES, SOURCE_BYTES};
 pub use service::serve;
-pub use status::{DONE, NO_MEMORY, REFUSED, SINK_FAILED, STORE_FAILED, TOO_LONG, USAGE};
+pub use status::{
+    DONE, MALFORMED, NO_MEMORY, PAST, REFUSED, SINK_FAILED, STORE_FAILED, TOO_LONG, USAGE, VIOLATED,
+};

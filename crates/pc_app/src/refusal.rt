@@ -61,18 +61,25 @@ fn push_fault(text: &mut Text, fault: SourceFault) -> Result<(), NoMemory>
     }
 }
 
-/// Adds a code and a place, as line and column.
+/// Adds a code and a place.
 fn push_at(text: &mut Text, code: &[u8], place: Place) -> Result<(), NoMemory>
     ensures { OnOk result (text.new ≡ text.old ++ (code.now ++ place_text place)) }
 {
     text.push_all(code)?;
+    push_place(text, place)
+}
+
+/// Adds a place, as line and column.
+pub(crate) fn push_place(text: &mut Text, place: Place) -> Result<(), NoMemory>
+    ensures { OnOk result (text.new ≡ text.old ++ place_text place) }
+{
     text.push_number(i128::from(place.line))?;
     text.push(b':')?;
     text.push_number(i128::from(place.column))
 }
 
 /// Adds a space and a number.
-fn push_also(text: &mut Text, number: i128) -> Result<(), NoMemory>
+pub(crate) fn push_also(text: &mut Text, number: i128) -> Result<(), NoMemory>
     ensures { OnOk result (text.new ≡ text.old ++ also number) }
 {
     text.push(b' ')?;

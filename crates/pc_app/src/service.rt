@@ -3,11 +3,11 @@
 ghost use Rattle.std.specs.Prelude.{◌≡◌, ◌≢◌, ◌≤◌, ◌<◌, ◌↔◌, ◌⊎◌, ℕ, List, map, string_bytes, length};
 ghost use Rattle.pc_ports.specs.Outside.{Held, Rose};
 ghost use Rattle.pc_app.specs.Built.{IsAnalysed};
-ghost use Rattle.pc_app.specs.Words.{IsInfer, IsPlain};
+ghost use Rattle.pc_app.specs.Words.{IsInfer, IsRun, IsPlain};
 ghost use Rattle.pc_app.specs.Silences.{LacksFile};
-ghost use Rattle.pc_app.specs.Promises.{OfBytes, PrintedSuffices, PrintedIsExact, IsAnswered, HasAnswered, IsCutOff, Ends};
+ghost use Rattle.pc_app.specs.Promises.{OfBytes, PrintedSuffices, PrintedIsExact, PrintedVerdict, IsVerdict, IsOnlyStatus, IsWritten, IsAnswered, HasAnswered, IsCutOff, Ends};
 
-use crate::answer::{Silence, answer_to_words};
+use crate::answer::{Answer, Stop, answer_to_words};
 use crate::limits::SOURCE_BYTES;
 use crate::status::{DONE, NO_MEMORY, REFUSED, SINK_FAILED, STORE_FAILED, TOO_LONG, USAGE};
 use pc_ports::{Sink, Store, WriteFault, put_all};
@@ -16,8 +16,10 @@ use std::alloc::Global;
 /// Answers the words of a command line, and ends with a status.
 ///
 /// The words are those after the program's name. `infer F` reads the source `F` from the store and
-/// writes a condition on its entry states to the sink: [`DONE`]. What is written with each other
-/// status, and when it comes, stands with the statuses.
+/// writes a condition on its entry states to the sink: [`DONE`]. `run F S` runs the source `F` on
+/// the script `S` and writes the verdict: [`DONE`], [`VIOLATED`](crate::VIOLATED) or
+/// [`PAST`](crate::PAST). What is written with each other status, and when it comes, stands with
+/// the statuses.
 pub fn serve<S: Store, K: Sink>(alloc: Global, words: &[String], store: &mut S, out: &mut K) -> u8
     // Words `infer F`, done: the bytes of F spell a program, a condition on its entry states was
     // printed, and every entry state that meets it is safe.
@@ -28,9 +30,17 @@ pub fn serve<S: Store, K: Sink>(alloc: Global, words: &[String], store: &mut S, 
     ensures exact { (name : List ℕ) → IsInfer (map string_bytes words.now) name → result ≡ DONE →
         OfBytes (λ bytes. PrintedIsExact bytes (K.written out.old) (K.written out.new)) (S.holding store.old name) }
 
+    // Words `run F S`: the verdict on the machine's run of the program of F over the choices of S.
+    ensures verdict { (source script : List ℕ) → IsRun (map string_bytes words.now) source script → IsVerdict result →
+        OfBytes (λ of_source. OfBytes (λ of_script. PrintedVerdict of_source of_script result (K.written out.old) (K.written out.new))
+        (S.holding store.old script)) (S.holding store.old source) }
+
     // Each answer is written whole.
     ensures answered { IsAnswered result →
         HasAnswered (map string_bytes words.now) (S.holding store.old) result (K.written out.old) (K.written out.new) }
+
+    // Where the files are told, no other status answers the words: each comes exactly where its cause stands.
+    ensures only { IsAnswered result → IsOnlyStatus (map string_bytes words.now) (S.holding store.old) result }
 
     // Usage exactly for words in no plain form.
     ensures usage { IsAnswered result → (result ≡ USAGE) ↔ (IsPlain (map string_bytes words.now) → ⊥) }
@@ -70,11 +80,18 @@ fn respond<S: Store, K: Sink>(alloc: Global, words: &[String], store: &mut S, ou
     ensures kept { (name : List ℕ) → S.holding store.new name ≡ S.holding store.old name }
 {
     match answer_to_words(alloc, words, store) {
-        Ok(answer) => match put_all(out, answer.text.bytes()) {
-            Ok(()) => answer.status,
-            Err(WriteFault) => SINK_FAILED,
-        },
-        Err(Silence::Store) => STORE_FAILED,
-        Err(Silence::Memory) => NO_MEMORY,
+        Ok(answer) | Err(Stop::Refused(answer)) => written(answer, out),
+        Err(Stop::Store) => STORE_FAILED,
+        Err(Stop::Memory) => NO_MEMORY,
+    }
+}
+
+/// Writes an answer, and says how that went by the status.
+fn written<K: Sink>(answer: Answer, out: &mut K) -> u8
+    ensures { IsWritten answer.status answer.text (K.written out.old) (K.written out.new) (K.faults out.old) (K.faults out.new) result }
+{
+    match put_all(out, answer.text.bytes()) {
+        Ok(()) => answer.status,
+        Err(WriteFault) => SINK_FAILED,
     }
 }

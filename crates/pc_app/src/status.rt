@@ -3,11 +3,17 @@
 /// The whole output was written.
 pub const DONE: u8 = 0;
 
+/// The run has violated an assertion; the verdict was written.
+pub const VIOLATED: u8 = 1;
+
 /// The words are no command; how the program is used was written.
 pub const USAGE: u8 = 2;
 
 /// The source spells no program that is analysed; the line that says why was written.
 pub const REFUSED: u8 = 3;
+
+/// The script is not in its grammar; the line that says why was written.
+pub const MALFORMED: u8 = 4;
 
 /// A file could not be read, or is not there; nothing was written.
 pub const STORE_FAILED: u8 = 5;
@@ -20,3 +26,6 @@ pub const NO_MEMORY: u8 = 7;
 
 /// A file has more bytes than its limit; the line that says which was written.
 pub const TOO_LONG: u8 = 8;
+
+/// The run needs a value that is not in range; the verdict was written.
+pub const PAST: u8 = 9;

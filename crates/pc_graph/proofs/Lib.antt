@@ -17,5 +17,7 @@ pub mod Variables
 pub mod Shapes
 pub mod Counts
 pub mod Graphs
+pub mod Turns
 pub mod Straights
 pub mod Programs
+pub mod LoopFree

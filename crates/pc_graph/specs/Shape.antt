@@ -1,5 +1,5 @@
 -- The shape of a graph: how many points and edges it has, where edges lead, and which variables they have.
-use Rattle.std.specs.Prelude.{◌≡◌, ℕ, ◌+◌, ◌<◌, ◌≤◌, List, ◌⊎◌, true, false, length, Some, IfSome, slice_get}
+use Rattle.std.specs.Prelude.{◌≡◌, ◌≢◌, ℕ, ◌+◌, ◌<◌, ◌≤◌, List, [], ◌∷◌, ◌⊎◌, true, false, length, Some, IfSome, slice_get}
 use Rattle.std.specs.List.{AllByRecursion as Each}
 use Rattle.pc_rows.specs.Linear.{IsOver}
 use Rattle.pc_rows.specs.declared.row.TheConstants.{VARIABLES}
@@ -41,3 +41,12 @@ pub record IsGraph (g : Flow) : Type 0 where
   pub alone : Each (λ e. e.from ≡ 0 → e ≡ arc 0 1 (Enter g.params)) g.edges
   pub entry : IfSome (slice_get g.points 0) (λ point. point.head ≡ false)
   pub leads : Each (LeadsUp g.points g.variables) g.edges
+
+-- not both edges lead back to one point
+abbrev pub TurnsApart : Arc → Arc → Type 0
+TurnsApart e f = e.to ≤ e.from → f.to ≤ f.from → e.to ≢ f.to
+
+-- each head has one edge that leads back to it
+abbrev pub NoSharedHead : List Arc → Type 0
+NoSharedHead [] = Unit {0}
+NoSharedHead (e ∷ es) = Each (TurnsApart e) es × NoSharedHead es

@@ -1,8 +1,9 @@
 -- What graphs say of their programs, and of those without tests and loops.
-use Rattle.std.specs.Prelude.{◌≡◌, ℤ, List, Bool, true, false, ◌&&◌, map, length}
+use Rattle.std.specs.Prelude.{◌≡◌, ℤ, List, [], Bool, true, false, ◌&&◌, map, length}
 use Rattle.std.specs.List.{AllByRecursion as Each}
 use Rattle.pc_text.specs.declared.place.Place.{Place}
 use Rattle.pc_rows.specs.Linear.{MeetsAll}
+use Rattle.pc_syntax.specs.Loops.{whiles_of}
 use Rattle.pc_syntax.specs.Machine.{Violated, run_of, Safe}
 use Rattle.pc_syntax.specs.Sane.{all_true}
 use Rattle.pc_syntax.specs.Values.{State}
@@ -13,12 +14,16 @@ use Rattle.pc_syntax.specs.declared.tree.Stmt.{Stmt, Stmt-F, fold-Stmt}
 use Rattle.pc_syntax.specs.declared.tree.Stmt.TheOpen as stmt
 use Rattle.pc_graph.specs.Exact.{Annotation, IsPaid, IsOwed, StraightEdge}
 use Rattle.pc_graph.specs.Lowering.{graph}
-use Rattle.pc_graph.specs.Shape.{IsGraph}
+use Rattle.pc_graph.specs.Shape.{IsGraph, NoSharedHead}
 use Rattle.pc_graph.specs.Walk.{IsEntry, entered}
 
 -- every graph of a program is one
 abbrev pub GraphsAreKept : Type 0
 GraphsAreKept = (p : Program) → IsGraph (graph p)
+
+-- no two loops of a program share a head
+abbrev pub LoopsHaveTheirHeads : Type 0
+LoopsHaveTheirHeads = (p : Program) → NoSharedHead (graph p).edges
 
 abbrev pub is_any : Test → Bool
 is_any test.Any = true
@@ -41,6 +46,10 @@ are_straight xs = all_true (map is_straight xs)
 -- each edge of the graph of such a program leads up, and every state passes it unless it is an assertion
 abbrev pub StraightGraphs : Type 0
 StraightGraphs = (p : Program) → are_straight p.body ≡ true → Each (StraightEdge (length (graph p).points) (graph p).variables) (graph p).edges
+
+-- the graph of a program without loops has no heads
+abbrev pub LoopFreeGraphs : Type 0
+LoopFreeGraphs = (p : Program) → whiles_of p.body ≡ [] → Each (λ point. point.head ≡ false) (graph p).points
 
 -- a program whose graph has rows at each point that pay for each edge is safe from the entry states that meet those of the entry
 abbrev pub PaidProgramsAreSafe : Type 0

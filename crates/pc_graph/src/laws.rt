@@ -2,7 +2,7 @@
 
 ghost use Rattle.pc_graph.specs.Carry.{CarryingIsExact, OwedIsEnough};
 ghost use Rattle.pc_graph.specs.Corresponds.{StepsCorrespond};
-ghost use Rattle.pc_graph.specs.Straight.{GraphsAreKept, StraightGraphs, PaidProgramsAreSafe, OwedIsViolated};
+ghost use Rattle.pc_graph.specs.Straight.{GraphsAreKept, LoopsHaveTheirHeads, StraightGraphs, LoopFreeGraphs, PaidProgramsAreSafe, OwedIsViolated};
 ghost use Rattle.pc_graph.specs.Exact.{PaidIsSafe, BrokenHasWalk, OwedIsNeeded};
 
 /// A program and its graph take the same steps.
@@ -40,10 +40,20 @@ pub fn graphs_are_kept()
     ensures { GraphsAreKept }
 {}
 
+/// No two loops of a program share a head.
+pub fn loops_have_their_heads()
+    ensures { LoopsHaveTheirHeads }
+{}
+
 /// Without loops, assumptions and tests but `*` each edge of a program's graph leads up, and every state passes it unless
 /// it is an assertion.
 pub fn straight_graphs()
     ensures { StraightGraphs }
+{}
+
+/// Without loops the graph of a program has no heads.
+pub fn loop_free_graphs()
+    ensures { LoopFreeGraphs }
 {}
 
 /// Where each edge of a program's graph is paid by the rows of its source, the program is safe from the entry states that

@@ -30,3 +30,9 @@ returns-clause-unwritten g c = ends.unwritten _ _ _ _ _ _ _ _ _ c.respond.ensure
 
 pub returns-clause-complete : goal.returns-clause-complete
 returns-clause-complete g c = ends.complete _ _ _ _ _ _ _ _ _ c.respond.ensures.ends
+
+pub returns-clause-verdict : goal.returns-clause-verdict
+returns-clause-verdict g c = ends.verdict _ _ _ _ _ _ _ _ _ c.respond.ensures.ends
+
+pub returns-clause-only : goal.returns-clause-only
+returns-clause-only g c = ends.only _ _ _ _ _ _ _ _ _ c.respond.ensures.ends

@@ -1,11 +1,22 @@
-use Rattle.std.proofs.Common.{◌≡◌, ◌∙◌, sym, codes, string_bytes}
-use Rattle.std.proofs.lemmas.Slice.Eq.{bytes_eq-Decides}
-use Rattle.pc_app.proofs.WordLemmas.{two_of}
+use Rattle.std.proofs.Common.{string_bytes, arith, inl, inr}
+use Rattle.std.proofs.lemmas.Bool.Decides.{nat_tests}
+use Rattle.pc_app.proofs.WordLemmas.{two_of, three_of, not_plain}
 use Rattle.pc_app.proofs.words.command_of.Goals as goal
+use Rattle.pc_app.proofs.words.command_of.Goals.{in_default-via-then-words-lt2, in_default-via-else-words-lt2+else-words-lt3+else-words-lt4}
 
-pub returns-then-is_file : goal.returns-then-is_file
-returns-then-is_file c =
-    let words = two_of string_bytes c.args.words.now c.verb-item.result c.name-item.result c.in-len2.len_at_least c.in-len2.len_below c.verb-item.is c.name-item.is in
-    let is_infer : c.as_str.result.now ≡ codes "infer" = (bytes_eq-Decides c.as_str.result.now (codes "infer")).0 (sym c.eq.ensures ∙ c.if-eq.true) in
-    let name : c.as_str-then-eq.result.now ≡ c.as_str-then-is_file.result.now = cc in
-    record { spelled = cc; file = rw name at (c.is_file.ensures.0 c.if-is_file.true) }
+pub returns-in-len2 : goal.returns-in-len2
+returns-in-len2 c =
+    let words = two_of string_bytes c.args.words.now c.verb-item.result c.source-item.result c.in-len2.len_at_least c.in-len2.len_below c.verb-item.is c.source-item.is in
+    rw words (rw (c.as_str.ensures.value, c.as_str-in-len2.ensures.value) at c.of_one_file.ensures)
+
+pub returns-in-len3 : goal.returns-in-len3
+returns-in-len3 c =
+    let words = three_of string_bytes c.args.words.now c.verb-item-then-words-lt4.result c.source-item-then-words-lt4.result c.other-item.result c.in-len3.len_at_least c.in-len3.len_below c.verb-item-then-words-lt4.is c.source-item-then-words-lt4.is c.other-item.is in
+    rw words (rw (c.as_str-in-len3.ensures.value, c.as_str-in-len3-2.ensures.value, c.as_str-in-len3-3.ensures.value) at c.of_two_files.ensures)
+
+pub returns-in_default : goal.returns-in_default
+returns-in_default c =
+    elim c.in_default.branch [
+      | in_default-via-then-words-lt2 w ↦ not_plain string_bytes c.args.words.now (inl (grind (arith, nat_tests)))
+      | in_default-via-else-words-lt2+else-words-lt3+else-words-lt4 w ↦ not_plain string_bytes c.args.words.now (inr (grind (arith, nat_tests)))
+    ]

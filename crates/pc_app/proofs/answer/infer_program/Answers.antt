@@ -1,9 +1,9 @@
 use Rattle.std.proofs.Common.{refl, ap, sym, ◌∙◌, List}
 use Rattle.pc_syntax.specs.declared.tree.Stmt.{Stmt}
 use Rattle.pc_app.specs.Built.{first_not_built}
-use Rattle.pc_app.specs.Answers.ProgramAnswers.{IsNotBuilt, HasCondition}
+use Rattle.pc_app.specs.Answers.InferAnswers.{IsNotBuilt, HasCondition}
 use Rattle.pc_app.proofs.StmtLemmas.{built_is_line}
-use Rattle.pc_app.proofs.answer.answer_to_program.Goals as goal
+use Rattle.pc_app.proofs.answer.infer_program.Goals as goal
 
 pub alternatives_of-requires : goal.alternatives_of-requires
 alternatives_of-requires c =

@@ -1,0 +1,55 @@
+-- What the reading of a script tells.
+use Rattle.std.proofs.Common.{◌≡◌, ◌≢◌, ◌∙◌, ap, sym, ℕ, ℤ, List, [], ◌∷◌, length, Bool, true, false, cond, Result, Ok, Err, refl, arith}
+use Rattle.std.specs.Prelude.{◌==◌}
+use Rattle.std.proofs.lemmas.Bool.Decides.{nat_tests}
+use Rattle.pc_text.specs.Bytes.{Bytes}
+use Rattle.pc_runner.specs.Answers.{Reads}
+use Rattle.pc_runner.specs.Scripts.{Choosing, script_of, script_by, entry_of, entry_by, as_many, values_in, choices_of, on_ok, lines}
+use Rattle.pc_runner.specs.Words.{words}
+use Rattle.pc_runner.specs.declared.fault.ScriptFault.{ScriptFault}
+use Rattle.pc_runner.specs.declared.fault.ScriptFault.TheVariants as fault
+
+pub faulty_means : (params : ℕ) (bytes : Bytes) (f : ScriptFault) → f ≢ fault.NoMemory → Reads (script_of params bytes) (Err f) → script_of params bytes ≡ Err f
+faulty_means params bytes (fault.Form n) some h = h
+faulty_means params bytes (fault.Number n) some h = h
+faulty_means params bytes (fault.Values m n) some h = h
+faulty_means params bytes (fault.Many n) some h = h
+faulty_means params bytes fault.NoMemory some h = absurd (some refl)
+
+abbrev found : List ℤ → Result (List ℤ) ScriptFault
+found values = Ok values
+
+as_many_are : (params : ℕ) (values entry : List ℤ) (t : Bool) → (length values == params) ≡ t → cond t (found values) (Err (fault.Values (length values) params)) ≡ Ok entry → length entry ≡ params
+as_many_are params values entry true h e = let same : values ≡ entry = cc in ap length (sym same) ∙ grind (arith, nat_tests)
+as_many_are params values entry false h e = cc
+
+entry_after : (params : ℕ) (entry : List ℤ) (r : Result (List ℤ) ScriptFault) → on_ok r (as_many params) ≡ Ok entry → length entry ≡ params
+entry_after params entry (Ok values) e = as_many_are params values entry (length values == params) refl e
+entry_after params entry (Err f) e = cc
+
+entry_where : (params : ℕ) (entry : List ℤ) (r : Result (List ℤ) ScriptFault) (t : Bool) → cond t (on_ok r (as_many params)) (Err (fault.Form 1)) ≡ Ok entry → length entry ≡ params
+entry_where params entry r true e = entry_after params entry r e
+entry_where params entry r false e = cc
+
+entry_is : (params : ℕ) (entry : List ℤ) (ws : List Bytes) → entry_by params ws ≡ Ok entry → length entry ≡ params
+entry_is params entry [] e = cc
+entry_is params entry (w ∷ ws) e = entry_where params entry (values_in 1 ws) _ e
+
+same_entry : (entry : List ℤ) (c : Choosing) (r : Result (List ℤ) ScriptFault) → on_ok r (λ choices. Ok (record { entry = entry; choices = choices })) ≡ Ok c → entry ≡ c.entry
+same_entry entry c (Ok choices) e = cc
+same_entry entry c (Err f) e = cc
+
+by_entry : (params : ℕ) (c : Choosing) (ws : List Bytes) (choices : Result (List ℤ) ScriptFault) (r : Result (List ℤ) ScriptFault) → entry_by params ws ≡ r →
+    on_ok r (λ entry. on_ok choices (λ choices. Ok (record { entry = entry; choices = choices }))) ≡ Ok c → length c.entry ≡ params
+by_entry params c ws choices (Ok entry) h e = ap length (sym (same_entry entry c choices e)) ∙ entry_is params entry ws h
+by_entry params c ws choices (Err f) h e = cc
+
+by_lines : (params : ℕ) (c : Choosing) (ls : List Bytes) → script_by params ls ≡ Ok c → length c.entry ≡ params
+by_lines params c [] e = cc
+by_lines params c (first ∷ []) e = cc
+by_lines params c (first ∷ next ∷ more) e = by_entry params c (words first) (choices_of 2 [] (next ∷ more)) (entry_of params first) refl e
+
+-- a script has a value for each parameter
+pub as_many_values : (params : ℕ) (bytes : Bytes) (c : Choosing) → script_of params bytes ≡ Ok c → length c.entry ≡ params
+unfolding script_of
+as_many_values params bytes c e = by_lines params c (lines bytes) e
