@@ -1,134 +1,155 @@
--- The condition of a line suffices, and is needed.
-use Rattle.std.proofs.Common.{◌≡◌, sym, refl, subst, ℕ, zero, suc, ◌<◌, ◌≤◌, ◌↔◌, ◌⊎◌, inl, inr, arith, List, [], ◌∷◌, ◌++◌, length, true, map, ℤ, pos, ◌≤ℤ◌, replicate, get_or, length-append, All}
-use Rattle.std.specs.Prelude.{nat_le, ◌&&◌}
+-- What follows from a certificate that is right for the graph of a program.
+use Rattle.std.proofs.Common.{◌≡◌, ◌≤◌, ◌<◌, ℕ, zero, suc, ◌+◌, ◌*◌, ◌^◌, sym, ap, subst, ◌∙◌, arith, List, [], ◌∷◌, length, map, get_or, Bool, true, false, All, inl, inr, Option, Some, None, ℤ, pos, refl}
+use Rattle.std.specs.Prelude.{◌⊎◌, ◌&&◌, nat_le, int_le, ◌≤ℤ◌}
 use Rattle.std.specs.List.{AllByRecursion}
 use Rattle.std.proofs.lemmas.Bool.Decides.{nat_tests}
-use Rattle.std.proofs.lemmas.List.{length-replicate}
-use Rattle.pc_rows.specs.Linear.{Linear, MeetsAll, MeetsSome, first_of, zero_from, IsOver}
-use Rattle.pc_rows.specs.declared.rows.TheConstants.{ROWS}
+use Rattle.std.proofs.lemmas.Int.{ints}
+use Rattle.pc_text.specs.declared.place.Place.{Place}
+use Rattle.pc_rows.specs.Linear.{Linear, State, value, Meets, MeetsAll, MeetsSome, IsOver}
 use Rattle.pc_rows.specs.declared.row.TheConstants.{VARIABLES}
-use Rattle.pc_rows.proofs.Joining.{join_is_both, joined_each}
-use Rattle.pc_rows.proofs.Carrying.{substitution_is_exact}
-use Rattle.pc_rows.proofs.First.{value_at_entry}
-use Rattle.pc_text.specs.Named.{locals}
+use Rattle.pc_rows.specs.declared.rows.TheConstants.{ROWS}
 use Rattle.pc_syntax.specs.declared.limits.TheConstants.{EDGES}
 use Rattle.pc_syntax.specs.declared.program.Program.{Program}
-use Rattle.pc_syntax.specs.Values.{State}
-use Rattle.pc_syntax.specs.Machine.{Going, started, Safe}
+use Rattle.pc_syntax.specs.Loops.{first, whiles_of}
 use Rattle.pc_syntax.specs.Sane.{is_sane, sane_stmts, edges_of}
 use Rattle.pc_syntax.proofs.Results.{and_is}
-use Rattle.pc_app.specs.Line.{is_line, need, LineFits, HasViolation}
-use Rattle.pc_app.specs.Needed.{at_entry}
-use Rattle.pc_app.specs.Inferred.{IsEntry, Suffices, IsNeeded, Inferred}
-use Rattle.pc_app.proofs.LineLaws.{need_is_enough, need_is_least}
-use Rattle.pc_app.proofs.SaneLemmas.{line_meant}
-use Rattle.pc_app.proofs.TameLemmas.{tame_fits}
+use Rattle.pc_graph.specs.Lowering.{graph}
+use Rattle.pc_graph.specs.Straight.{LoopFreeGraphs}
+use Rattle.pc_graph.proofs.LoopFree.{loop_free_graphs}
+use Rattle.pc_lower.specs.Annotation.{NoHeads}
+use Rattle.pc_cert.specs.declared.certificate.Annotated.{Annotated}
+use Rattle.pc_cert.specs.Certificate.{Certificate, entry_rows, condition_of, SaysOf}
+use Rattle.pc_text.specs.Bytes.{Bytes}
+use Rattle.pc_cert.specs.CertificateTexts.{IsTextOf}
+use Rattle.pc_cert.proofs.ShortTexts.{texts_are_short}
+use Rattle.pc_replay.specs.Accepts.{Accepts, AlternativeProved}
+use Rattle.pc_replay.specs.Rule.{rows_at}
+use Rattle.pc_replay.specs.Shape.{IsShaped}
+use Rattle.pc_replay.proofs.Sound.{accepted_programs_are_safe}
+use Rattle.pc_certify.specs.Inferring.{IsExact, AreEntryRows}
+use Rattle.pc_certify.proofs.Exactness.{infer_is_exact}
+use Rattle.pc_app.specs.declared.limits.TheConstants.{ALTERNATIVES, CERTIFICATE_BYTES}
+use Rattle.pc_app.specs.Inferred.{IsEntry, IsCondition, Suffices, HasViolation, IsNeeded, IsTameAndStraight, Inferred}
 
 -- ---- what a program keeps
-
-pub record Kept (p : Program) : Type 0 where
-  pub params : p.names.params ≤ length p.names.names
-  pub few : length p.names.names ≤ VARIABLES
-  pub stmts : sane_stmts (length p.names.names) p.body ≡ true
 
 at_most_is : (a b : ℕ) → nat_le a b ≡ true → a ≤ b
 at_most_is a b h = grind (arith, nat_tests)
 
-pub kept : (p : Program) → is_sane p.names p.body ≡ true → Kept p
-kept p h =
+few_params : (p : Program) → is_sane p.names p.body ≡ true → p.names.params ≤ length p.names.names
+few_params p h =
     let n = length p.names.names in
-    let params = and_is (nat_le p.names.params n) (nat_le n VARIABLES && (sane_stmts n p.body && nat_le (edges_of p.body) EDGES)) h in
-    let few = and_is (nat_le n VARIABLES) (sane_stmts n p.body && nat_le (edges_of p.body) EDGES) params.1 in
-    record { params = at_most_is p.names.params n params.0; few = at_most_is n VARIABLES few.0; stmts = (and_is (sane_stmts n p.body) (nat_le (edges_of p.body) EDGES) few.1).0 }
+    at_most_is p.names.params n (and_is (nat_le p.names.params n) (nat_le n VARIABLES && (sane_stmts n p.body && nat_le (edges_of p.body) EDGES)) h).0
 
--- ---- rows at the entry
+-- ---- facts of each item
 
-firsts_met : (params m : ℕ) (s : State) (rows : List Linear) → length s ≡ params → MeetsAll s (map (first_of params) rows) ↔ MeetsAll (s ++ replicate m (pos 0)) rows
-firsts_met params m s [] e = (λ h. tt, λ h. tt)
-firsts_met params m s (r ∷ rows) e =
-    let same = value_at_entry params m r s e in
-    let more = firsts_met params m s rows e in
-    (λ h. (subst (λ (z : ℤ). pos 0 ≤ℤ z) same h.0, more.0 h.1), λ h. (subst (λ (z : ℤ). pos 0 ≤ℤ z) (sym same) h.0, more.1 h.1))
-
-entry_met : (params m : ℕ) (s : State) (rows : List Linear) → length s ≡ params → MeetsAll s (at_entry params rows) ↔ MeetsAll (s ++ replicate m (pos 0)) rows
-entry_met params m s rows e =
-    let both = join_is_both [] (map (first_of params) rows) s in
-    let firsts = firsts_met params m s rows e in
-    (λ h. firsts.0 (both.0 h).1, λ h. both.1 (tt, firsts.1 h))
-
--- the rows have no locals
-
-zero_past : (n v : ℕ) (zs : List ℤ) → n ≤ v → get_or (zero_from n zs) v (pos 0) ≡ pos 0
-zero_past n v [] h = nothing v
-  where
-    nothing : (v : ℕ) → get_or {A = ℤ} [] v (pos 0) ≡ pos 0
-    nothing zero = refl
-    nothing (suc v) = refl
-zero_past zero zero (z ∷ zs) h = refl
-zero_past zero (suc v) (z ∷ zs) h = zero_past zero v zs (omega arith)
-zero_past (suc n) zero (z ∷ zs) h = absurd (omega arith)
-zero_past (suc n) (suc v) (z ∷ zs) h = zero_past n v zs (omega arith)
-
-firsts_within : (n : ℕ) (rows : List Linear) → AllByRecursion (IsOver n) (map (first_of n) rows)
-firsts_within n [] = tt
-firsts_within n (r ∷ rows) = ((λ v h. zero_past n v r.coefficients h), firsts_within n rows)
-
-each_is : {A : Type 0} (P : A → Type 0) (xs : List A) → AllByRecursion P xs → (k : ℕ) (d : A) → k < length xs → P (get_or xs k d)
+each_is : {A : Type 0} (P : A → Type 0) (xs : List A) → AllByRecursion P xs → All P xs
 each_is P [] h k d l = absurd (omega arith)
 each_is P (x ∷ xs) h zero d l = h.0
 each_is P (x ∷ xs) h (suc k) d l = each_is P xs h.1 k d (omega arith)
 
-entry_within : (n : ℕ) (rows : List Linear) → All (IsOver n) (at_entry n rows)
-entry_within n rows = each_is (IsOver n) (at_entry n rows) (joined_each (IsOver n) [] (map (first_of n) rows) tt (firsts_within n rows))
+each_more : {A : Type 0} (P Q : A → Type 0) → ((x : A) → P x → Q x) → (xs : List A) → AllByRecursion P xs → AllByRecursion Q xs
+each_more P Q f [] h = tt
+each_more P Q f (x ∷ xs) h = (f x h.0, each_more P Q f xs h.1)
+
+each_mapped : {A B : Type 0} (P : B → Type 0) (f : A → B) (xs : List A) → AllByRecursion (λ x. P (f x)) xs → AllByRecursion P (map f xs)
+each_mapped P f [] h = tt
+each_mapped P f (x ∷ xs) h = (h.0, each_mapped P f xs h.1)
+
+each_both : {A : Type 0} (P Q R : A → Type 0) → ((x : A) → P x → Q x → R x) → (xs : List A) → AllByRecursion P xs → AllByRecursion Q xs → AllByRecursion R xs
+each_both P Q R f [] h g = tt
+each_both P Q R f (x ∷ xs) h g = (f x h.0 g.0, each_both P Q R f xs h.1 g.1)
+
+-- ---- the rows of the entry
+
+entry_is : (a : Annotated) → rows_at a 0 ≡ entry_rows a.rows
+entry_is a = by a.rows
+  where
+    by : (rows : List (List Linear)) → get_or rows 0 [] ≡ entry_rows rows
+    by [] = refl
+    by (r ∷ rows) = refl
+
+wider : (m n : ℕ) → m ≤ n → (r : Linear) → IsOver m r → IsOver n r
+wider m n le r over v l = over v (omega arith)
+
+-- each alternative has rows for the entry, over the names
+pub says : (p : Program) (c : Certificate) → Accepts (graph p) c → AllByRecursion (SaysOf (length p.names.names)) c.alternatives
+says p c accepts =
+    each_both (IsShaped c.points c.edges c.variables) (AlternativeProved (graph p)) (SaysOf (length p.names.names))
+    (λ a shaped proved.
+        let long = shaped.rows ∙ accepts.shape.points in
+        let over = each_more (IsOver p.names.params) (IsOver (length p.names.names)) (wider p.names.params (length p.names.names) (few_params p p.sane)) (rows_at a 0) proved.entry in
+        (omega arith, each_is (IsOver (length p.names.names)) (entry_rows a.rows) (subst (λ (rows : List Linear). AllByRecursion (IsOver (length p.names.names)) rows) (entry_is a) over)))
+    c.alternatives accepts.shape.each accepts.each
 
 -- ---- the condition
 
--- the one item of a list
-only : {A : Type 0} (P : A → Type 0) (x : A) → P x → All P (x ∷ [])
-only P x h = each_is P (x ∷ []) (h, tt)
+mapped_length : {A B : Type 0} (f : A → B) (xs : List A) → length (map f xs) ≡ length xs
+mapped_length f [] = refl
+mapped_length f (x ∷ xs) = ap suc (mapped_length f xs)
 
-none : {A : Type 0} (P : A → Type 0) → All P []
-none P = λ k d l. absurd (omega arith)
+small : (p : Program) (c : Certificate) → length c.alternatives ≤ 1 → AllByRecursion (AreEntryRows (graph p)) (condition_of c) → IsCondition p (condition_of c)
+small p c one rows =
+    let long = mapped_length (λ (a : Annotated). entry_rows a.rows) c.alternatives in
+    record {
+      alternatives = omega arith;
+      rows = each_is (λ rows. length rows ≤ ROWS) (condition_of c) (each_more (AreEntryRows (graph p)) (λ rows. length rows ≤ ROWS) (λ rows h. h.most) (condition_of c) rows);
+      parameters = each_is (All (IsOver p.names.params)) (condition_of c)
+          (each_more (AreEntryRows (graph p)) (All (IsOver p.names.params)) (λ rows h. each_is (IsOver p.names.params) rows h.over) (condition_of c) rows);
+    }
 
-started_long : (p : Program) (s : State) → Kept p → IsEntry p s → length (started p s) ≡ length p.names.names
-started_long p s keeps entry = let params = keeps.params in omega (arith, entry, length-append s (replicate (locals p.names) (pos 0)), length-replicate (locals p.names) (pos 0))
+-- ---- whether a state meets a condition
 
--- a state that meets the condition of a line is safe
-line_suffices : (p : Program) (rows : List Linear) → Kept p → is_line p.body ≡ true → rows ≡ at_entry p.names.params (need p.body) → Suffices p (rows ∷ [])
-line_suffices p rows keeps line e s entry meets = by meets
+meets_or_not : (s : State) (r : Linear) → Meets s r ⊎ (Meets s r → ⊥)
+meets_or_not s r = by (int_le (pos 0) (value r s)) refl
   where
-    by : MeetsSome s (rows ∷ []) → Safe p s
-    by (inl m) =
-        need_is_enough join_is_both substitution_is_exact (length p.names.names) p.body (started p s) (started_long p s keeps entry) line (line_meant (length p.names.names) p.body line keeps.stmts)
-        ((entry_met p.names.params (locals p.names) s (need p.body) entry).0 (rw e at m))
-    by (inr n) = absurd n
+    by : (t : Bool) → int_le (pos 0) (value r s) ≡ t → Meets s r ⊎ (Meets s r → ⊥)
+    by true e = inl (grind (arith, ints))
+    by false e = inr (λ m. grind (arith, ints))
 
--- a state that does not meet it has a run that violates an assertion
-line_is_needed : (p : Program) (rows : List Linear) → Kept p → is_line p.body ≡ true → rows ≡ at_entry p.names.params (need p.body) → IsNeeded p (rows ∷ [])
-line_is_needed p rows keeps line e s entry = by (need_is_least join_is_both substitution_is_exact (length p.names.names) p.body line (line_meant (length p.names.names) p.body line keeps.stmts) (started p s) (started_long p s keeps entry))
+all_or_not : (s : State) (rows : List Linear) → MeetsAll s rows ⊎ (MeetsAll s rows → ⊥)
+all_or_not s [] = inl tt
+all_or_not s (r ∷ rows) = by (meets_or_not s r) (all_or_not s rows)
   where
-    by : MeetsAll (started p s) (need p.body) ⊎ HasViolation (Going p.body (started p s)) → MeetsSome s (rows ∷ []) ⊎ HasViolation (Going p.body (started p s))
-    by (inl m) = inl (inl (rw e ((entry_met p.names.params (locals p.names) s (need p.body) entry).1 m)))
-    by (inr v) = inr v
+    by : Meets s r ⊎ (Meets s r → ⊥) → MeetsAll s rows ⊎ (MeetsAll s rows → ⊥) → MeetsAll s (r ∷ rows) ⊎ (MeetsAll s (r ∷ rows) → ⊥)
+    by (inl h) (inl g) = inl (h, g)
+    by (inl h) (inr g) = inr (λ m. g m.1)
+    by (inr h) q = inr (λ m. h m.0)
 
-pub line_inferred : (p : Program) (rows : List Linear) → Kept p → is_line p.body ≡ true → rows ≡ at_entry p.names.params (need p.body) → length rows ≤ ROWS → Inferred p (rows ∷ [])
-line_inferred p rows keeps line e most = record {
-  small = record {
-    alternatives = omega arith;
-    rows = only (λ rows. length rows ≤ ROWS) rows most;
-    parameters = only (All (IsOver p.names.params)) rows (rw e (entry_within p.names.params (need p.body)));
-  };
-  sound = line_suffices p rows keeps line e;
-  exact = λ straight tame. line_is_needed p rows keeps line e;
-}
+some_or_not : (s : State) (condition : List (List Linear)) → MeetsSome s condition ⊎ (MeetsSome s condition → ⊥)
+some_or_not s [] = inr (λ m. m)
+some_or_not s (rows ∷ condition) = by (all_or_not s rows) (some_or_not s condition)
+  where
+    by : MeetsAll s rows ⊎ (MeetsAll s rows → ⊥) → MeetsSome s condition ⊎ (MeetsSome s condition → ⊥) → MeetsSome s (rows ∷ condition) ⊎ (MeetsSome s (rows ∷ condition) → ⊥)
+    by (inl h) q = inl (inl h)
+    by (inr h) (inl g) = inl (inr g)
+    by (inr h) (inr g) = inr (λ m. elim m [ inl x ↦ h x | inr y ↦ g y ])
 
-pub beyond_inferred : (p : Program) → (LineFits p.body → ⊥) → Inferred p []
-beyond_inferred p beyond = record {
-  small = record { alternatives = omega arith; rows = none (λ rows. length rows ≤ ROWS); parameters = none (All (IsOver p.names.params)) };
-  sound = λ s entry meets. absurd meets;
-  exact = λ line tame s entry. absurd (beyond (tame_fits p.body tame));
-}
+needed : (p : Program) (c : Certificate) → Accepts (graph p) c → IsExact (graph p) c → IsTameAndStraight p → IsNeeded p (condition_of c)
+needed p c accepts exact is s entry = by (some_or_not s (condition_of c))
+  where
+    by : MeetsSome s (condition_of c) ⊎ (MeetsSome s (condition_of c) → ⊥) → MeetsSome s (condition_of c) ⊎ HasViolation p s
+    by (inl h) = inl h
+    by (inr h) = inr ((infer_is_exact p c is.straight is.tame accepts exact s entry).violated h)
 
--- over the parameters is over the names
-pub named : (p : Program) (condition : List (List Linear)) → Kept p → All (All (IsOver p.names.params)) condition → All (All (IsOver (length p.names.names))) condition
-named p condition keeps over = λ k d l i e m v h. over k d l i e m v (let params = keeps.params in omega arith)
+pub inferred : (p : Program) (c : Certificate) → length c.alternatives ≤ 1 → Accepts (graph p) c → AllByRecursion (AreEntryRows (graph p)) (condition_of c) → IsExact (graph p) c → Inferred p (condition_of c)
+inferred p c one accepts rows exact =
+    record {
+      small = small p c one rows;
+      sound = accepted_programs_are_safe p c accepts;
+      exact = needed p c accepts exact;
+    }
+
+-- ---- graphs without loops
+
+none_is : (places : List Place) → first places ≡ None → places ≡ []
+none_is [] e = refl
+none_is (p ∷ places) e = cc
+
+pub no_heads : (p : Program) → first (whiles_of p.body) ≡ None → NoHeads (graph p).points
+no_heads p e = loop_free_graphs p (none_is (whiles_of p.body) e)
+
+-- ---- the length of the text
+
+pub short_text : (c : Certificate) (text : Bytes) → length c.alternatives ≤ 1 → IsTextOf text c → length text ≤ CERTIFICATE_BYTES
+short_text c text one is = let l = texts_are_short c is.showable is.kept in let e = ap (λ (z : Bytes). length z) is.text in omega arith

@@ -1,10 +1,10 @@
 //! What the words `infer` are answered: conditions, and their certificates.
 
-ghost use Rattle.std.specs.Prelude.{◌≡◌, None, ℕ, List, IfOk};
+ghost use Rattle.std.specs.Prelude.{◌≡◌, ◌≤◌, None, ℕ, List, length, IfOk};
 ghost use Rattle.pc_syntax.specs.Loops.{first, whiles_of};
 ghost use Rattle.pc_graph.specs.Lowering.{graph};
 ghost use Rattle.pc_replay.specs.Accepts.{Accepts};
-ghost use Rattle.pc_cert.specs.Certificate.{condition_of};
+ghost use Rattle.pc_cert.specs.Certificate.{condition_of, IsShowable};
 ghost use Rattle.pc_app.specs.Inferred.{Inferred};
 ghost use Rattle.pc_app.specs.Answers.{AnalysisAnswers, InferAnswers, CertifyAnswers};
 ghost use Rattle.pc_app.specs.Reading.{OrderIs};
@@ -82,6 +82,8 @@ fn certificate_of(alloc: Global, program: &Program) -> Result<Certificate, NoMem
     requires { first (whiles_of program.now.body) ≡ None }
     ensures inferred { IfOk result (λ c. Inferred program.now (condition_of c)) }
     ensures accepted { IfOk result (Accepts (graph program.now)) }
+    ensures showable { IfOk result IsShowable }
+    ensures one { IfOk result (λ c. length c.alternatives ≤ 1) }
 {
     let graph = lower(alloc, program)?;
     match infer(alloc, &graph) {

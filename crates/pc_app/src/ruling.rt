@@ -1,8 +1,8 @@
 //! The text that tells a ruling on a certificate.
 
-ghost use Rattle.std.specs.Prelude.{◌≡◌, ◌≢◌, ◌++◌, length, codes, pos, All, OnOk, IfOk};
-ghost use Rattle.pc_rows.specs.Linear.{IsOver};
-ghost use Rattle.pc_cert.specs.Certificate.{condition_of};
+ghost use Rattle.std.specs.Prelude.{◌≡◌, ◌≢◌, ◌++◌, length, codes, pos, OnOk, IfOk};
+ghost use Rattle.std.specs.List.{AllByRecursion};
+ghost use Rattle.pc_cert.specs.Certificate.{condition_of, SaysOf};
 ghost use Rattle.pc_app.specs.Rulings.{numbered, at_edge, at_row, refusal_text, refusal_line, ruling_status, ruling_text};
 
 use crate::answer::Answer;
@@ -19,7 +19,7 @@ pub(crate) fn answer_of_ruling(
     names: &Names,
     ruling: Ruling,
 ) -> Result<Answer, NoMemory>
-    requires { ruling ≡ Ruling.Accepted → All (All (IsOver (length names.now.names))) (condition_of certificate.now) }
+    requires { ruling ≡ Ruling.Accepted → AllByRecursion (SaysOf (length names.now.names)) certificate.now.alternatives }
     ensures { IfOk result (λ a. (a.status ≡ ruling_status ruling) × (a.text ≡ ruling_text names.now.names (condition_of certificate.now) ruling)) }
 {
     if let Ruling::Accepted = ruling {
@@ -37,7 +37,7 @@ pub(crate) fn answer_of_ruling(
 
 /// The answer to a certificate that is accepted: so much, and what it says of the entry.
 fn accepted(alloc: Global, certificate: &Certificate, names: &Names) -> Result<Answer, NoMemory>
-    requires { All (All (IsOver (length names.now.names))) (condition_of certificate.now) }
+    requires { AllByRecursion (SaysOf (length names.now.names)) certificate.now.alternatives }
     ensures { IfOk result (λ a. (a.status ≡ DONE) × (a.text ≡ ruling_text names.now.names (condition_of certificate.now) Ruling.Accepted)) }
 {
     let condition = show_condition(alloc, certificate, names)?;

@@ -36,6 +36,7 @@ pub fn infer(alloc: Global, g: &Graph) -> Result<Certificate, NoMemory>
     ensures safe { IfOk result (IsSafe g.now) }
     ensures showable { IfOk result IsShowable }
     ensures few { IfOk result (λ c. length c.alternatives ≤ CANDIDATES) }
+    ensures one { IfOk result (λ c. length c.alternatives ≤ 1) }
     ensures rows { IfOk result (λ c. AllByRecursion (AreEntryRows g.now) (condition_of c)) }
     ensures none { IfOk result (λ c. c.alternatives ≡ [] → HasNone g.now) }
     ensures exact { IfOk result (IsExact g.now) }

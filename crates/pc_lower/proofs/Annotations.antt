@@ -7,7 +7,7 @@ use Rattle.pc_rows.specs.Linear.{Linear}
 use Rattle.pc_rows.specs.declared.rows.TheConstants.{ROWS}
 use Rattle.pc_graph.specs.declared.point.PointInfo.{PointInfo}
 use Rattle.pc_rows.proofs.Joining.{each_join}
-use Rattle.pc_lower.specs.Annotation.{rows_at, AreFew, is_head, no_rows}
+use Rattle.pc_lower.specs.Annotation.{rows_at, AreFew, AreOver, is_head, no_rows}
 use Rattle.pc_lower.specs.Need.{at_heads}
 
 -- the rows of point p where it is a head
@@ -65,3 +65,13 @@ pub head_told : (points : List PointInfo) (p : ℕ) (b : Bool) → p < length po
 head_told [] p b lt h = absurd (omega arith)
 head_told (point ∷ points) zero b lt h = sym h
 head_told (point ∷ points) (suc p) b lt h = head_told points p b (omega arith) h
+
+-- no rows at all
+
+pub none_long : (points : List PointInfo) → length (no_rows points) ≡ length points
+none_long [] = refl
+none_long (point ∷ points) = ap suc (none_long points)
+
+pub none_over : (n : ℕ) (points : List PointInfo) → AreOver n (no_rows points)
+none_over n [] = tt
+none_over n (point ∷ points) = (tt, none_over n points)

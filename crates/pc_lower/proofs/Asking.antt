@@ -42,7 +42,7 @@ pub over_test : (w : What) (own a target left : List Linear) (answer : Result (L
     Answers (Joins a left ∷ []) (joined a left) answer → Answers (edge_operations w a target) (joined a (asked w target)) answer
 over_test w own a target left answer e is h =
     rw e (after_carries (Test own) a target answer (test_fits own target)
-      (subst (λ (z : List Linear). Answers (Joins a z ∷ []) (joined a z) answer) (is ∙ ap (uncovered own) (sym (test_same own target))) h))
+    (subst (λ (z : List Linear). Answers (Joins a z ∷ []) (joined a z) answer) (is ∙ ap (uncovered own) (sym (test_same own target))) h))
 
 -- two joins are one with both lists
 both_refused : (f : CandidateFault) (own a target : List Linear) → IsFirstFault f (Joins (joined a own) target ∷ []) → IsFirstFault f (Joins a (own ++ target) ∷ [])
@@ -62,7 +62,7 @@ pub over_check : (w : What) (own a first target : List Linear) (answer : Result 
     Answers (Joins first target ∷ []) (joined first target) answer → Answers (edge_operations w a target) (joined a (asked w target)) answer
 over_check w own a first target answer e is h =
     rw e (after_carries (Check own) a target answer (check_fits own target)
-      (over_both own a target answer (subst (λ (z : List Linear). Answers (Joins z target ∷ []) (joined z target) answer) is h)))
+    (over_both own a target answer (subst (λ (z : List Linear). Answers (Joins z target ∷ []) (joined z target) answer) is h)))
 
 -- where the first join has a row too many, so has that with both lists
 longer : (own a target : List Linear) → length (joined a (own ++ target)) ≤ ROWS → length (joined a own) ≤ ROWS

@@ -75,8 +75,8 @@ gathered_covers_asked : (a : Annotation) (rows : List Linear) (edges : List Arc)
 gathered_covers_asked a rows [] e m = absurd m
 gathered_covers_asked a rows (f ∷ edges) e (inl same) =
     subst (λ (z : Arc). Each (λ r. Covers r (gathered a rows (f ∷ edges))) (asked z.what (a z.to))) (sym same)
-      (each_more (λ r. Covers r (joined rows (asked f.what (a f.to)))) (λ r. Covers r (gathered a rows (f ∷ edges)))
-        (λ r h. gathered_covers a (joined rows (asked f.what (a f.to))) edges r h) (asked f.what (a f.to)) (joined_covers_rows rows (asked f.what (a f.to))))
+    (each_more (λ r. Covers r (joined rows (asked f.what (a f.to)))) (λ r. Covers r (gathered a rows (f ∷ edges)))
+    (λ r h. gathered_covers a (joined rows (asked f.what (a f.to))) edges r h) (asked f.what (a f.to)) (joined_covers_rows rows (asked f.what (a f.to))))
 gathered_covers_asked a rows (f ∷ edges) e (inr m) = gathered_covers_asked a (joined rows (asked f.what (a f.to))) edges e m
 
 -- and what it owes by that and the rows of its test
@@ -110,4 +110,4 @@ annotation_covers g heads is e m h =
     let a = rows_at (need g heads) in
     let all = gathered_covers_asked a [] (leaving e.from g.edges) e (in_leaving e.from g.edges e m refl) in
     owed_covered e.what (a e.from) (a e.to)
-      (subst (λ (z : List Linear). Each (λ r. Covers r z) (asked e.what (a e.to))) (sym ((need_is g is.leads heads).needed e.from h)) all)
+    (subst (λ (z : List Linear). Each (λ r. Covers r z) (asked e.what (a e.to))) (sym ((need_is g is.leads heads).needed e.from h)) all)

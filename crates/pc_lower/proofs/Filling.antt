@@ -80,7 +80,7 @@ module _ (g : Flow) where
         below_above n n (filled g n a) (omega arith)
         ∙ filled_here n a h lt
         ∙ gathered_alike (rows_at a) (rows_at (filled_below g (suc n) a)) [] (leaving n g.edges)
-          (agree_leaving g.points g.variables n (rows_at a) (rows_at (filled_below g (suc n) a)) g.edges leads (agree_below n a))
+        (agree_leaving g.points g.variables n (rows_at a) (rows_at (filled_below g (suc n) a)) g.edges leads (agree_below n a))
 
     pub below_needed : (n p : ℕ) (a : Rows) → p < n → n ≤ length a → is_head g.points p ≡ false →
         HasNeeded (filled_below g n a) p

@@ -62,7 +62,7 @@ module _ (a : Annotation) (p : ℕ) (edges : List Arc) (i : ℕ) (e : Arc) (rows
       Answers (edges_operations a [] (leaving p edges)) value (Err f)
   gathers_refused target part value f here at_target h =
       refused (edge_operations e.what rows (a e.to)) (edges_operations a (joined rows (asked e.what (a e.to))) more) _ part value f (next_left here)
-        (subst (λ (z : List Linear). Answers (edge_operations e.what rows z) part (Err f)) at_target h)
+      (subst (λ (z : List Linear). Answers (edge_operations e.what rows z) part (Err f)) at_target h)
 
 pub gathers_none : (a : Annotation) (p : ℕ) (edges : List Arc) → Gathers a p edges 0 []
 gathers_none a p edges = record { rest = refl; left = left_all (edges_operations a [] (leaving p edges)) }

@@ -11,3 +11,4 @@ pub mod Paying
 pub mod Variables
 pub mod Tameness
 pub mod Completing
+pub mod Worked

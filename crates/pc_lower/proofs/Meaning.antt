@@ -72,7 +72,7 @@ module _ (g : Flow) (leads : Each (LeadsUp g.points g.variables) g.edges) where
         by false h above =
             is.needed q h
             ∙ gathered_alike (rows_at a) (rows_at b) [] (leaving q g.edges)
-              (agree_leaving g.points g.variables q (rows_at a) (rows_at b) g.edges leads (record { above = above; heads = λ p k. is.given p k ∙ sym (also.given p k) }))
+            (agree_leaving g.points g.variables q (rows_at a) (rows_at b) g.edges leads (record { above = above; heads = λ p k. is.given p k ∙ sym (also.given p k) }))
             ∙ sym (also.needed q h)
 
     pub same_need : a ≡ b

@@ -48,9 +48,10 @@ passes (Check own) s t (r ∷ rows) has pass m = (subst (λ (z : State). Meets z
 passes (Set x form lo hi) s t (r ∷ rows) has pass m =
     let low = pass.1 in
     let high = pass.2 in
-    let ordered : end_of lo ≤ℤ end_of hi = omega (arith, ints) in
-    (subst (λ (z : State). Meets z r) (sym pass.3) ((substitution_is_exact r form x (end_of lo) (end_of hi) s has ordered).0 m.0 pass.0 low high),
-      passes (Set x form lo hi) s t rows has pass m.1)
+    let ordered : end_of lo ≤ℤ end_of hi = omega (arith, ints) in (
+      subst (λ (z : State). Meets z r) (sym pass.3) ((substitution_is_exact r form x (end_of lo) (end_of hi) s has ordered).0 m.0 pass.0 low high),
+      passes (Set x form lo hi) s t rows has pass m.1,
+    )
 
 has_variable : (n : ℕ) (w : What) (s : State) → WhatIsOver n w → length s ≡ n → HasVariable w s
 has_variable n (Enter params) s over long = tt
@@ -85,7 +86,7 @@ need_is_paid g heads is none e m s long met =
     let a = rows_at (need g heads) in
     let leads = each_at (LeadsUp g.points g.variables) g.edges e is.leads m in
     pays e.what s (a e.from) (a e.to) (has_variable g.variables e.what s leads.over long)
-      (annotation_covers g heads is e m (no_head g.points e.from none)) met
+    (annotation_covers g heads is e m (no_head g.points e.from none)) met
 
 -- each row is owed
 

@@ -60,7 +60,7 @@ module _ (g : Flow) (heads : List (List Linear)) (is : IsGraph g) (none : NoHead
   unfolding a
   tame_at p =
       each_rows_at AreTame (need g heads) p (record { most = omega arith; numbers = tt })
-        (subst (Each AreTame) (need_is_free g (no_rows g.points) heads none) tame.points)
+      (subst (Each AreTame) (need_is_free g (no_rows g.points) heads none) tame.points)
 
   carried_each : (p : ℕ) (edges : List Arc) → Each (λ e. (e.from ≡ p) × HasTameNumbers e.what) edges → Each (λ e. Each Fits (carries e.what (a e.to))) edges
   carried_each p [] h = tt

@@ -90,7 +90,7 @@ module _ (g : Flow) (leads : Each (LeadsUp g.points g.variables) g.edges) where
   needed_over : (a : List (List Linear)) (p : ℕ) → AreOver g.variables a → Each (IsOver g.variables) (needed_at g.edges (rows_at a) p)
   needed_over a p h =
       gathered_each (IsOver g.variables) (rows_at a) [] (leaving p g.edges) tt
-        (asked_each a p (leaving p g.edges) h (each_leaving (LeadsUp g.points g.variables) p g.edges leads))
+      (asked_each a p (leaving p g.edges) h (each_leaving (LeadsUp g.points g.variables) p g.edges leads))
 
   filled_over : (p : ℕ) (a : List (List Linear)) → AreOver g.variables a → AreOver g.variables (filled g p a)
   filled_over p a h = by (is_head g.points p)
@@ -120,7 +120,7 @@ entry_over g heads is =
     let a = rows_at (need g heads) in
     let all = each_leaving (λ e. e.from ≡ 0 → e ≡ arc 0 1 (Enter g.params)) 0 g.edges is.alone in
     subst (Each (IsOver g.params)) (sym ((need_is g is.leads heads).needed 0 (entry_is_no_head g.points is.entry)))
-      (gathered_each (IsOver g.params) a [] (leaving 0 g.edges) tt (entry_asked g.params a (leaving 0 g.edges) all))
+    (gathered_each (IsOver g.params) a [] (leaving 0 g.edges) tt (entry_asked g.params a (leaving 0 g.edges) all))
 
 pub need_is_complete : NeedIsComplete
 need_is_complete g heads is over = record {

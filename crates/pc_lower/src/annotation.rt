@@ -61,6 +61,7 @@ fn at_head(alloc: Global, g: &Graph, heads: &Annotation, p: u32) -> Result<Rows,
         return Ok(Rows::new(alloc));
     }
     let rows = rows_at(heads, p);
+    // its length tells that the list is within its limit
     let _most = rows.len();
     rows.copy()
 }

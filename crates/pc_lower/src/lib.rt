@@ -11,7 +11,9 @@ mod need;
 pub use annotation::{Annotation, no_rows, rows_at};
 pub use completion::complete;
 pub use fault::CandidateFault;
-pub use laws::{annotation_covers, need_is_free, need_is_meant, need_is_owed, need_is_paid, tame_need_fits};
+pub use laws::{
+    annotation_covers, need_is_free, need_is_meant, need_is_owed, need_is_paid, tame_need_fits,
+};
 
 #[cfg(test)]
 mod tests;

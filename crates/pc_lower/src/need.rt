@@ -16,7 +16,12 @@ use pc_rows::{Rows, join};
 use std::alloc::Global;
 
 /// The rows that a point needs which is no head: the join of what the edges from it ask, in order.
-pub fn needed_at(alloc: Global, g: &Graph, p: u32, rows: &Annotation) -> Result<Rows, CandidateFault>
+pub fn needed_at(
+    alloc: Global,
+    g: &Graph,
+    p: u32,
+    rows: &Annotation,
+) -> Result<Rows, CandidateFault>
     requires { length rows.now ≡ length g.now.points }
     ensures needed { Answers (edges_operations (rows_at rows.now) [] (leaving p g.now.edges)) (needed_at g.now.edges (rows_at rows.now) p) result }
     ensures few { IfOk result (λ needed. length needed ≤ ROWS) }
@@ -28,6 +33,7 @@ pub fn needed_at(alloc: Global, g: &Graph, p: u32, rows: &Annotation) -> Result<
             needed = with_edge(alloc, &needed, e, rows_at(rows, e.to))?;
         }
     }
+    // its length tells that the list is within its limit
     let _few = needed.len();
     Ok(needed)
 }

@@ -9,7 +9,7 @@ use Rattle.pc_lower.proofs.carry.uncovered.Goals as goal
 pub loop-i-preserved-then-covered : goal.loop-i-preserved-then-covered
 loop-i-preserved-then-covered c =
     filter_left (λ r. not (is_covered r c.args.others.now)) c.args.rows.now c.loop-i.i c.at-row.result.now c.loop-i.left c.at-row.ensures c.loop-i.invariant
-      (ap not (sym c.covered.ensures.value ∙ c.if-covered.true))
+    (ap not (sym c.covered.ensures.value ∙ c.if-covered.true))
 
 pub loop-i-preserved : goal.loop-i-preserved
 loop-i-preserved c =
@@ -18,4 +18,4 @@ loop-i-preserved c =
     let rest = uncovered others (drop (c.loop-i.i + 1) c.args.rows.now) in
     ap (λ (z : List Linear). z ++ rest) pushed
     ∙ filter_kept (λ r. not (is_covered r others)) c.args.rows.now c.loop-i.i c.at-row.result.now c.loop-i.left c.at-row.ensures c.loop-i.invariant
-      (ap not (sym c.covered.ensures.value ∙ c.if-covered.false))
+    (ap not (sym c.covered.ensures.value ∙ c.if-covered.false))

@@ -42,7 +42,7 @@ loop-p-preserved-then-not-is_head c =
     let so_far = subst (λ (m : ℕ). Completes g c.args.heads.now m c.loop-p.rows) next c.loop-p.invariant in
     let other = head_told g.points n c.is_head.result (omega arith) c.is_head.ensures ∙ c.if-not-is_head.true in
     completes_next g c.args.heads.now c.loop-p.rows c.points-p.ensures.kept n so_far c.in_ok-needed.needed c.set.new.self other
-      c.in_ok-needed.ensures.needed.0 c.in_ok-needed.ensures.needed.1 c.in_ok-needed.ensures.few c.set.ensures
+    c.in_ok-needed.ensures.needed.0 c.in_ok-needed.ensures.needed.1 c.in_ok-needed.ensures.few c.set.ensures
 
 pub loop-p-preserved : goal.loop-p-preserved
 loop-p-preserved c =

@@ -16,7 +16,7 @@ returns-in_err-needed-clause-needed c =
     let here : e.from ≡ c.args.p = search rules in
     let at_target : c.rows_at.result.now ≡ a e.to = search rules in
     rw (q.1, q.2) (gathers_refused a c.args.p c.args.g.now.edges c.loop-i.i e c.loop-i.needed c.edge-e.ensures c.loop-i.invariant c.rows_at.result.now
-      (joined c.loop-i.needed (asked e.what c.rows_at.result.now)) (needed_at c.args.g.now.edges a c.args.p) c.in_err-needed.field-0.0 here at_target c.in_err-needed.ensures)
+    (joined c.loop-i.needed (asked e.what c.rows_at.result.now)) (needed_at c.args.g.now.edges a c.args.p) c.in_err-needed.field-0.0 here at_target c.in_err-needed.ensures)
 
 pub loop-i-preserved : goal.loop-i-preserved
 loop-i-preserved c =
@@ -27,11 +27,11 @@ loop-i-preserved c =
           let here : e.from ≡ c.args.p = search rules in
           let at_target : w.rows_at.result.now ≡ a e.to = search rules in
           gathers_here a c.args.p c.args.g.now.edges c.loop-i.i e c.loop-i.needed c.edge-e.ensures c.loop-i.invariant w.rows_at.result.now c.if-e-p.needed here at_target
-            w.in_ok-needed.ensures.0 (w.needed-is ∙ w.in_ok-needed.ensures.1)
+          w.in_ok-needed.ensures.0 (w.needed-is ∙ w.in_ok-needed.ensures.1)
       | else-e-p w ↦
           let from : c.e.inside.from ≡ e.from = search rules in
           subst (Gathers a c.args.p c.args.g.now.edges (c.loop-i.i + 1)) (sym w.needed-is)
-            (gathers_other a c.args.p c.args.g.now.edges c.loop-i.i e c.loop-i.needed c.edge-e.ensures c.loop-i.invariant (λ h. w.if-e-p.false (from ∙ h)))
+          (gathers_other a c.args.p c.args.g.now.edges c.loop-i.i e c.loop-i.needed c.edge-e.ensures c.loop-i.invariant (λ h. w.if-e-p.false (from ∙ h)))
     ]
 
 pub returns-clause-needed : goal.returns-clause-needed

@@ -1,0 +1,8 @@
+use Rattle.pc_app.proofs.InferLemmas.{no_heads, inferred}
+use Rattle.pc_app.proofs.infer.certificate_of.Goals as goal
+
+pub infer-requires : goal.infer-requires
+infer-requires c = ?
+
+pub returns-in-Ok-clause-inferred : goal.returns-in-Ok-clause-inferred
+returns-in-Ok-clause-inferred c = ?
