@@ -1,11 +1,11 @@
 -- Rows over the first variables: no operation brings a variable that its rows have not.
-use Rattle.std.proofs.Common.{◌≡◌, ℕ, zero, suc, ◌≤◌, ℤ, pos, ◌+ℤ◌, ◌*ℤ◌, neg_ℤ, refl, sym, ap, ◌∙◌, arith, List, [], ◌∷◌, ◌++◌, length, get_or, set, Bool, true, false, cond}
+use Rattle.std.proofs.Common.{◌≡◌, ℕ, zero, suc, ◌≤◌, ℤ, pos, ◌*ℤ◌, neg_ℤ, refl, ap, ◌∙◌, arith, List, [], ◌∷◌, ◌++◌, get_or, set, Bool, true, false, cond}
 use Rattle.std.specs.List.{AllByRecursion}
 use Rattle.std.proofs.lemmas.Int.{ints}
 use Rattle.std.proofs.Math.IntN.{*ℤ-zero}
 use Rattle.pc_rows.specs.Linear.{Linear, coefficient, add_lists, scale_list, negate_list, zero_from, is_zero, IsOver}
 use Rattle.pc_rows.specs.Substitution.{carried}
-use Rattle.pc_rows.specs.Joins.{with_row, joined, is_covered}
+use Rattle.pc_rows.specs.Joins.{with_row, is_covered}
 use Rattle.pc_rows.specs.Laws.{FirstIsOver, SubstitutedIsOver, DifferenceIsOver, NegationIsOver, JoinIsOver}
 use Rattle.pc_rows.proofs.Algebra.{get_or-add_lists, get_or-scale_list}
 use Rattle.pc_rows.proofs.Joining.{each_join}
@@ -50,8 +50,8 @@ negation_is_over n r f v h = opposite_at r.coefficients v (f v h)
 carried_is_over : (n : ℕ) (r form : Linear) (x : ℕ) (lo hi : ℤ) → IsOver n r → IsOver n form → IsOver n (carried r x form lo hi)
 carried_is_over n r form x lo hi f g v h =
     added_at (scale_list (coefficient r x) form.coefficients) (set r.coefficients x (pos 0)) v
-      (scaled_at (coefficient r x) form.coefficients v (g v h))
-      (set_at r.coefficients x v (f v h))
+    (scaled_at (coefficient r x) form.coefficients v (g v h))
+    (set_at r.coefficients x v (f v h))
 
 by_zero : (n : ℕ) (r form : Linear) (x : ℕ) (lo hi : ℤ) (t : Bool) → IsOver n r → IsOver n form → IsOver n (cond t r (carried r x form lo hi))
 by_zero n r form x lo hi true f g = f
