@@ -1,5 +1,5 @@
 -- The parse tree of a text within the limits passes its test.
-use Rattle.std.proofs.Common.{◌≡◌, ℕ, ◌+◌, ◌≤◌, refl, ap, sym, ◌∙◌, arith, List, [], ◌∷◌, ◌++◌, Bool, true, false, Option, Some, None}
+use Rattle.std.proofs.Common.{◌≡◌, ℕ, ◌+◌, ◌≤◌, refl, ap, ◌∙◌, arith, List, [], ◌∷◌, ◌++◌, Bool, true, false}
 use Rattle.std.specs.Prelude.{◌&&◌, ◌||◌, not, nat_le}
 use Rattle.std.specs.List.{list_all}
 use Rattle.std.proofs.lemmas.Bool.Decides.{nat_tests}
@@ -12,7 +12,6 @@ use Rattle.pc_grammar.specs.declared.tree.StmtTree.{StmtTree}
 use Rattle.pc_grammar.specs.declared.tree.ProgramTree.{ProgramTree}
 use Rattle.pc_grammar.specs.Combinators.{Text, is_map, is_both, is_maybe, is_many}
 use Rattle.pc_grammar.specs.Terminals.{the, is_one}
-use Rattle.pc_grammar.specs.Expressions as grammar
 use Rattle.pc_grammar.specs.Statements as stmts
 use Rattle.pc_grammar.specs.Programs as programs
 use Rattle.pc_grammar.specs.Limits.{start, Within}
@@ -22,7 +21,8 @@ use Rattle.pc_syntax.proofs.Results.{and_is, and_of}
 use Rattle.pc_syntax.proofs.Seen.{IsOne, level_behind, Sees, one_sees, map_sees, both_sees, maybe_sees, many_sees}
 use Rattle.pc_syntax.proofs.SeenExprs.{spelled, Passes}
 use Rattle.pc_syntax.proofs.SeenTests.{Holds, seconds_are, enclosed_sees}
-use Rattle.pc_syntax.proofs.SeenStmts.{Nests, opening, stmts_see, block_sees}
+use Rattle.pc_syntax.proofs.Nesting.{Nests, opening}
+use Rattle.pc_syntax.proofs.SeenStmts.{stmts_see, block_sees}
 
 -- ---- names
 
