@@ -2,7 +2,6 @@
 use Rattle.std.proofs.Common.{◌≡◌, ℕ, zero, suc, ◌+◌, ◌≤◌, ◌<◌, ℤ, refl, ap, sym, ◌∙◌, arith, List, [], ◌∷◌, Bool, true, false, Option, Some, None, Ok}
 use Rattle.std.specs.Prelude.{◌&&◌, ◌||◌, not, nat_le}
 use Rattle.std.specs.List.{list_all}
-use Rattle.std.proofs.lemmas.Bool.Decides.{nat_tests}
 use Rattle.pc_text.specs.Bytes.{Bytes}
 use Rattle.pc_text.specs.declared.place.Place.{Place}
 use Rattle.pc_grammar.specs.declared.symbol.Symbol.{Symbol}
@@ -20,7 +19,7 @@ use Rattle.pc_grammar.specs.Limits.{of_expressions, counts}
 use Rattle.pc_syntax.specs.declared.showing.level.Level.TheVariants as level
 use Rattle.pc_syntax.specs.Showable.{is_literal}
 use Rattle.pc_syntax.specs.ShownTrees as short
-use Rattle.pc_syntax.proofs.Results.{and_is, and_of}
+use Rattle.pc_syntax.proofs.Results.{and_is, and_of, at_most}
 use Rattle.pc_syntax.proofs.PhraseSymbols.{paren_over, expr_over}
 use Rattle.pc_syntax.proofs.SignCosts.{cost, signs_on}
 use Rattle.pc_syntax.proofs.SignBounds.{signs_cost}
@@ -34,9 +33,6 @@ spelled src s = is_literal s.number && (not (the terminal.Name s) || short.spell
 pub record Passes (b : Bool) (c d : Counts) : Type 0 where
   pub passed : c.behind_keyword ≡ false → b ≡ true
   pub level : d.braces ≡ c.braces
-
-at_most : (a b : ℕ) → a ≤ b → nat_le a b ≡ true
-at_most a b h = grind (arith, nat_tests)
 
 -- ---- the numbers of expressions
 
