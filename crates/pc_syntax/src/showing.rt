@@ -7,6 +7,7 @@ ghost use Rattle.pc_syntax.specs.Pieces.{bytes_of};
 mod compares;
 mod exprs;
 mod level;
+mod lines;
 mod names;
 mod rights;
 mod stmts;

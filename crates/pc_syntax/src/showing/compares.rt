@@ -1,8 +1,8 @@
 //! The texts of comparisons, conjunctions and tests.
 
-ghost use Rattle.std.specs.Prelude.{◌≡◌, ◌++◌, true, length, codes, OnOk};
+ghost use Rattle.std.specs.Prelude.{◌≡◌, ◌++◌, true, length, OnOk};
 ghost use Rattle.pc_syntax.specs.Canonical as spec;
-ghost use Rattle.pc_syntax.specs.Named.{named_compare, named_all, named_test};
+ghost use Rattle.pc_syntax.specs.Naming.{named_compare, named_all, named_test};
 ghost use Rattle.pc_syntax.specs.Pieces.{bytes_of};
 
 use crate::showing::exprs::push_expr;

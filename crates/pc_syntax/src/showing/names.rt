@@ -1,6 +1,6 @@
 //! The texts of the lists of names.
 
-ghost use Rattle.std.specs.Prelude.{◌≡◌, ◌<◌, ◌≤◌, ◌++◌, length, slice_range, OnOk};
+ghost use Rattle.std.specs.Prelude.{◌≡◌, ◌≤◌, ◌++◌, length, slice_range, OnOk};
 ghost use Rattle.pc_syntax.specs.Canonical as spec;
 ghost use Rattle.pc_syntax.specs.Pieces.{bytes_of};
 

@@ -1,14 +1,12 @@
 //! The texts of statements. Each takes its margin, the spaces before its first line.
 
-ghost use Rattle.std.specs.Prelude.{◌≡◌, ◌<◌, ◌+◌, ◌++◌, true, length, map, codes, OnOk, IfOk};
+ghost use Rattle.std.specs.Prelude.{◌≡◌, ◌+◌, ◌++◌, true, length, map, codes, OnOk, IfOk};
 ghost use Rattle.pc_syntax.specs.Canonical as spec;
-ghost use Rattle.pc_syntax.specs.Named.{named_all, named_test, named_stmt, named_stmts};
+ghost use Rattle.pc_syntax.specs.Naming.{named_stmt, named_stmts};
 ghost use Rattle.pc_syntax.specs.Pieces.{bytes_of, blanks};
-ghost use Rattle.pc_syntax.specs.Sane.{names_below};
 
-use crate::showing::compares::{push_all, push_test};
-use crate::showing::rights::push_right;
-use crate::tree::{Compare, Right, Stmt, Test};
+use crate::showing::lines::{push_claim, push_set, push_tested, push_tried};
+use crate::tree::Stmt;
 use pc_text::{Names, NoMemory, Text};
 use std::alloc::Global;
 
@@ -21,87 +19,6 @@ fn deeper(alloc: Global, margin: &[u8]) -> Result<Text, NoMemory>
     inner.push_all(margin)?;
     inner.push_all(b"  ")?;
     Ok(inner)
-}
-
-/// Appends the margin, a keyword and a parenthesis.
-fn push_opening(text: &mut Text, margin: &[u8], word: &[u8]) -> Result<(), NoMemory>
-    ensures { OnOk result (text.new ≡ text.old ++ (margin.now ++ (word.now ++ codes " ("))) }
-{
-    text.push_all(margin)?;
-    text.push_all(word)?;
-    text.push_all(b" (")
-}
-
-/// Appends an assertion or an assumption.
-fn push_claim(
-    text: &mut Text,
-    names: &Names,
-    margin: &[u8],
-    word: &[u8],
-    all: &[Compare],
-) -> Result<(), NoMemory>
-    requires { named_all (length names.now.names) all.now ≡ true }
-    ensures { OnOk result (text.new ≡ text.old ++ (margin.now ++ (word.now ++ (codes " (" ++ (bytes_of (spec.all_pieces names.now.names all.now) ++ codes ");\n"))))) }
-{
-    push_opening(text, margin, word)?;
-    push_all(text, names, all)?;
-    text.push_all(b");\n")
-}
-
-/// Appends the front of an `if` or a `while`, up to its test.
-fn push_tested(
-    text: &mut Text,
-    names: &Names,
-    margin: &[u8],
-    word: &[u8],
-    test: &Test,
-) -> Result<(), NoMemory>
-    requires { named_test (length names.now.names) test.now ≡ true }
-    ensures { OnOk result (text.new ≡ text.old ++ (margin.now ++ (word.now ++ (codes " (" ++ (bytes_of (spec.test_pieces names.now.names test.now) ++ codes ")"))))) }
-{
-    push_opening(text, margin, word)?;
-    push_test(text, names, test)?;
-    text.push_all(b")")
-}
-
-/// Appends the comparisons that a loop tries, if there are any.
-fn push_tried(text: &mut Text, names: &Names, tried: &[Compare]) -> Result<(), NoMemory>
-    requires { named_all (length names.now.names) tried.now ≡ true }
-    ensures { OnOk result (text.new ≡ text.old ++ bytes_of (spec.tried_pieces names.now.names tried.now)) }
-{
-    if tried.is_empty() {
-        return Ok(());
-    }
-    text.push_all(b" try (")?;
-    push_all(text, names, tried)?;
-    text.push_all(b")")
-}
-
-/// Appends the target of an assignment and its sign.
-fn push_target(text: &mut Text, names: &Names, margin: &[u8], var: u32) -> Result<(), NoMemory>
-    requires { var < length names.now.names }
-    ensures { OnOk result (text.new ≡ text.old ++ (margin.now ++ (spec.name_at names.now.names var ++ codes " = "))) }
-{
-    text.push_all(margin)?;
-    text.push_all(names.at(var))?;
-    text.push_all(b" = ")
-}
-
-/// Appends an assignment.
-fn push_set(
-    text: &mut Text,
-    names: &Names,
-    margin: &[u8],
-    var: u32,
-    right: &Right,
-) -> Result<(), NoMemory>
-    requires target { var < length names.now.names }
-    requires right { names_below (length names.now.names) right.now.expr ≡ true }
-    ensures { OnOk result (text.new ≡ text.old ++ (margin.now ++ (spec.name_at names.now.names var ++ (codes " = " ++ (bytes_of (spec.right_pieces names.now.names right.now) ++ codes ";\n"))))) }
-{
-    push_target(text, names, margin, var)?;
-    push_right(text, names, right)?;
-    text.push_all(b";\n")
 }
 
 /// Appends the end of a block.
@@ -180,7 +97,10 @@ fn push_stmt(
             text.push_all(b"\n")
         }
         Stmt::While {
-            test, tried, body, ..
+            test,
+            tried,
+            body,
+            ..
         } => {
             push_tested(text, names, margin, b"while", test)?;
             push_tried(text, names, tried.as_slice())?;

@@ -1,5 +1,5 @@
 use Rattle.std.proofs.Common.{◌≡◌, ◌<◌, length, true, arith}
-use Rattle.pc_syntax.specs.Trees.{fit_stmt, fit_stmts}
+use Rattle.pc_syntax.specs.Trees.{fit_stmt}
 use Rattle.pc_syntax.proofs.StepLemmas.{handed, weight, weights, item_smaller, item_fits, item_fails, item_done}
 use Rattle.pc_syntax.proofs.walk.stmts.+walk.Goals as goal
 
