@@ -2,7 +2,6 @@
 use Rattle.std.proofs.Common.{◌≡◌, ℕ, zero, suc, ◌+◌, ◌<◌, ◌≤◌, ℤ, pos, negsuc, refl, sym, ◌∙◌, ap, arith, List, [], ◌∷◌, length, Bool, true, false, Option, Some, None}
 use Rattle.std.specs.Prelude.{◌&&◌, nat_le}
 use Rattle.std.specs.List.{list_all}
-use Rattle.std.proofs.lemmas.Bool.Decides.{nat_tests}
 use Rattle.pc_text.specs.declared.place.Place.{Place}
 use Rattle.pc_rows.specs.Linear.{in_range}
 use Rattle.pc_grammar.specs.declared.symbol.Symbol.{Symbol}
@@ -22,7 +21,7 @@ use Rattle.pc_grammar.specs.Rights as rights
 use Rattle.pc_grammar.specs.Statements as stmts
 use Rattle.pc_grammar.specs.Limits.{of_expressions}
 use Rattle.pc_syntax.specs.Trees.{fit_symbol, fit_expr_step, fit_expr, fit_compare, fit_all, fit_test, fit_bound, fit_choice, fit_right}
-use Rattle.pc_syntax.proofs.Results.{and_is, and_of}
+use Rattle.pc_syntax.proofs.Results.{and_is, and_of, at_most}
 use Rattle.pc_syntax.proofs.SymbolFits.{fits}
 use Rattle.pc_syntax.proofs.Phrases.{Over, Good, Passes, one_passes, map_passes, pair, both_passes, either_passes, optional, maybe_passes, many_passes, dead_passes}
 use Rattle.pc_syntax.proofs.PhraseSymbols.{all_over, ands, ands_on, ands-append, parted_by_ands, length-seconds}
@@ -191,9 +190,6 @@ few_by : (a c d y z : ℕ) → d ≡ c + a → (0 < a → d < COMPARISONS) → y
 few_by zero c d y z s m l e = omega arith
 few_by (suc a) c d y z s m l e = let k = m (omega arith) in omega arith
 
-few_test : (a b : ℕ) → a ≤ b → nat_le a b ≡ true
-few_test a b h = grind (arith, nat_tests)
-
 module _ (n : ℕ) (P : Lang ExprTree) (o : Over of_expressions P) (p : Passes n P (fit_expr n)) where
   compare_passes : Passes n (stmts.is_compare P) (fit_compare n)
   compare_passes = map_passes n stmts.compare_of (is_both (grammar.is_expr_in P) (is_both (is_one_of stmts.operators) (grammar.is_expr_in P))) (pair (fit_expr n) (pair (fits n) (fit_expr n))) (fit_compare n)
@@ -220,7 +216,7 @@ module _ (n : ℕ) (P : Lang ExprTree) (o : Over of_expressions P) (p : Passes n
 
       by : (cs : List CompareTree) → list_all (fit_compare n) cs ≡ true → length cs ≤ COMPARISONS → 0 < length cs → fit_all n cs ≡ true
       by [] h k m = absurd (omega arith)
-      by (c ∷ cs) h k m = and_of (nat_le (length (c ∷ cs)) COMPARISONS) (list_all (fit_compare n) (c ∷ cs)) (few_test (length (c ∷ cs)) COMPARISONS k) h
+      by (c ∷ cs) h k m = and_of (nat_le (length (c ∷ cs)) COMPARISONS) (list_all (fit_compare n) (c ∷ cs)) (at_most (length (c ∷ cs)) COMPARISONS k) h
 
   pub test_passes : Passes n (stmts.is_test P) (fit_test n)
   test_passes = either_passes n (is_map stmts.any (is_one terminal.Star)) (is_map stmts.holds (stmts.is_all P)) (fit_test n)

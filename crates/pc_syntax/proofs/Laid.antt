@@ -3,12 +3,12 @@ use Rattle.std.proofs.Common.{◌≡◌, ℕ, ℤ, ap, List, [], ◌∷◌, map}
 use Rattle.pc_text.specs.Bytes.{Bytes}
 use Rattle.pc_text.specs.declared.place.Place.{Place}
 use Rattle.pc_grammar.specs.declared.symbol.Terminal.TheVariants as terminal
-use Rattle.pc_syntax.specs.declared.tree.Expr.{Expr, Expr-F, map-Expr, fold-Expr, roll-Expr, fold-roll-Expr}
+use Rattle.pc_syntax.specs.declared.tree.Expr.{Expr, Expr-F, map-Expr, roll-Expr, fold-roll-Expr}
 use Rattle.pc_syntax.specs.declared.tree.Expr.TheVariants as e
 use Rattle.pc_syntax.specs.declared.tree.Compare.{Compare}
 use Rattle.pc_syntax.specs.declared.tree.Test.{Test}
 use Rattle.pc_syntax.specs.declared.tree.Right.{Right}
-use Rattle.pc_syntax.specs.declared.tree.Stmt.{Stmt, Stmt-F, map-Stmt, fold-Stmt, roll-Stmt, fold-roll-Stmt}
+use Rattle.pc_syntax.specs.declared.tree.Stmt.{Stmt, Stmt-F, map-Stmt, roll-Stmt, fold-roll-Stmt}
 use Rattle.pc_syntax.specs.declared.tree.Stmt.TheOpen as stmt
 use Rattle.pc_syntax.specs.declared.tree.Stmt.TheVariants as s
 use Rattle.pc_syntax.specs.declared.showing.level.Level.{Level}

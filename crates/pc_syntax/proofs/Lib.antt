@@ -30,6 +30,8 @@ pub mod SignBounds
 pub mod Seen
 pub mod SeenExprs
 pub mod SeenTests
+pub mod ShortStmts
+pub mod Nesting
 pub mod SeenStmts
 pub mod SeenPrograms
 pub mod SpelledSymbols

@@ -1,12 +1,12 @@
 -- The text of a list of names, a name at a time.
-use Rattle.std.proofs.Common.{◌≡◌, ℕ, ◌+◌, ◌-◌, ◌<◌, ◌≤◌, refl, ap, sym, ◌∙◌, arith, List, [], ◌∷◌, ◌++◌, append_assoc, append-nil, length, get_or, drop, take, Some, codes, length-drop, drop-cons, add-one, suc}
+use Rattle.std.proofs.Common.{◌≡◌, ℕ, ◌+◌, ◌-◌, ◌<◌, ◌≤◌, ap, sym, ◌∙◌, arith, List, [], ◌∷◌, ◌++◌, append_assoc, append-nil, length, get_or, drop, take, Some, codes, length-drop, drop-cons, add-one, suc}
 use Rattle.std.specs.Prelude.{slice_get, slice_range}
 use Rattle.std.proofs.lemmas.List.{take_more, take_all, get_or-drop}
 use Rattle.std.proofs.lemmas.Option.{get_or_from_slice_get}
 use Rattle.std.proofs.lemmas.Grind.{flat_map-append}
 use Rattle.pc_text.specs.Bytes.{Bytes}
 use Rattle.pc_grammar.specs.declared.symbol.Terminal.TheVariants as terminal
-use Rattle.pc_syntax.specs.Pieces.{Piece, Blank, Mark, Name, spelled, bytes_of}
+use Rattle.pc_syntax.specs.Pieces.{Blank, Mark, Name, spelled, bytes_of}
 use Rattle.pc_syntax.specs.Canonical.{further_names, names_pieces}
 
 -- one name more

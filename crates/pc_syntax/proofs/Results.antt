@@ -1,6 +1,7 @@
 -- Lemmas on tests and on results that are handed on.
-use Rattle.std.proofs.Common.{◌≡◌, Bool, true, false, refl, Result, Ok, Err}
-use Rattle.std.specs.Prelude.{◌&&◌, not, IfOk, if◌then◌else◌}
+use Rattle.std.proofs.Common.{◌≡◌, ℕ, ◌≤◌, arith, Bool, true, false, refl, Result, Ok, Err}
+use Rattle.std.specs.Prelude.{◌&&◌, not, nat_le, IfOk, if◌then◌else◌}
+use Rattle.std.proofs.lemmas.Bool.Decides.{nat_tests}
 use Rattle.pc_syntax.specs.Forms.{bind}
 
 pub and_is : (b c : Bool) → (b && c) ≡ true → (b ≡ true) × (c ≡ true)
@@ -14,6 +15,9 @@ and_of false c h k = cc
 pub not_true : (b : Bool) → not b ≡ true → b ≡ false
 not_true true h = cc
 not_true false h = refl
+
+pub at_most : (a b : ℕ) → a ≤ b → nat_le a b ≡ true
+at_most a b h = grind (arith, nat_tests)
 
 pub true_or_false : (P : Bool → Type 0) → P true → P false → (b : Bool) → P b
 true_or_false P t f true = t

@@ -1,5 +1,5 @@
 -- The text of an end of an interval.
-use Rattle.std.proofs.Common.{◌≡◌, refl, sym, ap, ◌∙◌, ℤ, pos, negsuc, suc, [], ◌∷◌, ◌++◌, append-nil}
+use Rattle.std.proofs.Common.{◌≡◌, sym, ap, ◌∙◌, ℤ, pos, negsuc, suc, ◌∷◌, ◌++◌, append-nil}
 use Rattle.pc_text.specs.Bytes.{Bytes}
 use Rattle.pc_text.specs.Numerals.{numeral, natural_text}
 use Rattle.pc_grammar.specs.declared.tree.Bound.{Bound}

@@ -82,15 +82,15 @@ comparisons_are_rows c s h =
 
 -- ---- conjunctions
 
-meets_left : (s : State) (as' bs : List Linear) → MeetsAll s (as' ++ bs) → MeetsAll s as'
+pub meets_left : (s : State) (as' bs : List Linear) → MeetsAll s (as' ++ bs) → MeetsAll s as'
 meets_left s [] bs h = tt
 meets_left s (a ∷ as') bs h = (h.0, meets_left s as' bs h.1)
 
-meets_right : (s : State) (as' bs : List Linear) → MeetsAll s (as' ++ bs) → MeetsAll s bs
+pub meets_right : (s : State) (as' bs : List Linear) → MeetsAll s (as' ++ bs) → MeetsAll s bs
 meets_right s [] bs h = h
 meets_right s (a ∷ as') bs h = meets_right s as' bs h.1
 
-meets_join : (s : State) (as' bs : List Linear) → MeetsAll s as' → MeetsAll s bs → MeetsAll s (as' ++ bs)
+pub meets_join : (s : State) (as' bs : List Linear) → MeetsAll s as' → MeetsAll s bs → MeetsAll s (as' ++ bs)
 meets_join s [] bs h k = k
 meets_join s (a ∷ as') bs h k = (h.0, meets_join s as' bs h.1 k)
 
@@ -109,7 +109,7 @@ conjunctions_are_rows (c ∷ cs) s h =
 met_or_not : (r : Linear) (s : State) → Meets s r ⊎ Meets s (negation r)
 met_or_not r s = by_lt_z (value r s) (pos 0) (λ h. inr (let e = value-negation r s in omega (arith, ints))) (λ h. inl h)
 
-not_both : (r : Linear) (s : State) → Meets s r → Meets s (negation r) → ⊥
+pub not_both : (r : Linear) (s : State) → Meets s r → Meets s (negation r) → ⊥
 not_both r s h k = let e = value-negation r s in omega (arith, ints)
 
 -- all rows are met, or the negation of one

@@ -1,5 +1,5 @@
 -- In a program that keeps the context rules each variable has a name.
-use Rattle.std.proofs.Common.{◌≡◌, ℕ, refl, ap, sym, ◌∙◌, subst, List, [], ◌∷◌, length, map, Bool, true}
+use Rattle.std.proofs.Common.{◌≡◌, ℕ, refl, sym, ◌∙◌, List, [], ◌∷◌, length, Bool, true}
 use Rattle.std.specs.Prelude.{◌&&◌, not, nat_le, nat_lt}
 use Rattle.std.specs.List.{AllByRecursion, list_all}
 use Rattle.pc_grammar.specs.declared.limits.TheConstants.{COMPARISONS}
@@ -14,7 +14,7 @@ use Rattle.pc_syntax.specs.declared.tree.Stmt.TheOpen as stmt
 use Rattle.pc_text.specs.Named.{Named}
 use Rattle.pc_syntax.specs.Forms.{is_affine, is_unequal, rows_of, row_fits}
 use Rattle.pc_syntax.specs.Sane as sane
-use Rattle.pc_syntax.specs.Named.{named_compare, named_all, named_test, named_step, named_stmt, named_stmts}
+use Rattle.pc_syntax.specs.Naming.{named_compare, named_all, named_test, named_step, named_stmt, named_stmts}
 use Rattle.pc_syntax.proofs.Results.{and_is, and_of}
 use Rattle.pc_syntax.proofs.Stmts.{by_stmt, all_by}
 

@@ -1,8 +1,7 @@
 -- What a text within the limits says of its expressions, comparisons and right sides.
-use Rattle.std.proofs.Common.{◌≡◌, ℕ, zero, suc, ◌+◌, ◌≤◌, ◌<◌, ℤ, pos, refl, ap, sym, ◌∙◌, arith, List, [], ◌∷◌, ◌++◌, Bool, true, false, Option, Some, None, Result, Ok, Err}
+use Rattle.std.proofs.Common.{◌≡◌, ℕ, zero, suc, ◌+◌, ◌≤◌, ◌<◌, ℤ, refl, ap, sym, ◌∙◌, arith, List, [], ◌∷◌, Bool, true, false, Option, Some, None, Ok}
 use Rattle.std.specs.Prelude.{◌&&◌, ◌||◌, not, nat_le}
 use Rattle.std.specs.List.{list_all}
-use Rattle.std.proofs.lemmas.Bool.Decides.{nat_tests}
 use Rattle.pc_text.specs.Bytes.{Bytes}
 use Rattle.pc_text.specs.declared.place.Place.{Place}
 use Rattle.pc_grammar.specs.declared.symbol.Symbol.{Symbol}
@@ -10,30 +9,21 @@ use Rattle.pc_grammar.specs.declared.symbol.Terminal.{Terminal}
 use Rattle.pc_grammar.specs.declared.symbol.Terminal.TheVariants as terminal
 use Rattle.pc_grammar.specs.declared.limits.Counts.{Counts}
 use Rattle.pc_grammar.specs.declared.limits.TheConstants.{SIGNS}
-use Rattle.pc_grammar.specs.declared.tree.Bound.{Bound}
-use Rattle.pc_grammar.specs.declared.tree.Choice.{Choice}
 use Rattle.pc_grammar.specs.declared.tree.ExprTree.{ExprTree, fold-roll-ExprTree}
 use Rattle.pc_grammar.specs.declared.tree.ExprTree.TheOpen as tree
 use Rattle.pc_grammar.specs.declared.tree.ExprTree.TheVariants as expr_is
-use Rattle.pc_grammar.specs.declared.tree.CompareTree.{CompareTree}
-use Rattle.pc_grammar.specs.declared.tree.TestTree.{TestTree}
-use Rattle.pc_grammar.specs.declared.tree.RightTree.{RightTree}
 use Rattle.pc_grammar.specs.Combinators.{Text, Lang, is_map, is_both, is_either, is_maybe, is_many}
-use Rattle.pc_grammar.specs.Terminals.{the, among, is_one, is_one_of}
+use Rattle.pc_grammar.specs.Terminals.{the, is_one, is_one_of}
 use Rattle.pc_grammar.specs.Expressions as grammar
-use Rattle.pc_grammar.specs.Rights as rights
-use Rattle.pc_grammar.specs.Statements as stmts
 use Rattle.pc_grammar.specs.Limits.{of_expressions, counts}
 use Rattle.pc_syntax.specs.declared.showing.level.Level.TheVariants as level
-use Rattle.pc_syntax.specs.Showable.{is_literal, is_name}
+use Rattle.pc_syntax.specs.Showable.{is_literal}
 use Rattle.pc_syntax.specs.ShownTrees as short
-use Rattle.pc_syntax.specs.Context.{word}
-use Rattle.pc_syntax.proofs.Results.{and_is, and_of}
-use Rattle.pc_syntax.proofs.Phrases.{optional}
+use Rattle.pc_syntax.proofs.Results.{and_is, and_of, at_most}
 use Rattle.pc_syntax.proofs.PhraseSymbols.{paren_over, expr_over}
 use Rattle.pc_syntax.proofs.SignCosts.{cost, signs_on}
 use Rattle.pc_syntax.proofs.SignBounds.{signs_cost}
-use Rattle.pc_syntax.proofs.Seen.{IsOne, clear_behind, level_behind, flat_on, Sees, one_sees, map_sees, both_sees, either_sees, maybe_sees, many_sees, dead_sees}
+use Rattle.pc_syntax.proofs.Seen.{IsOne, flat_on, Sees, one_sees, map_sees, both_sees, either_sees, maybe_sees, many_sees, dead_sees}
 
 -- a symbol whose number is that of a token, and which is spelled by a name where it stands for one
 abbrev pub spelled : Bytes → Symbol → Bool
@@ -43,9 +33,6 @@ spelled src s = is_literal s.number && (not (the terminal.Name s) || short.spell
 pub record Passes (b : Bool) (c d : Counts) : Type 0 where
   pub passed : c.behind_keyword ≡ false → b ≡ true
   pub level : d.braces ≡ c.braces
-
-at_most : (a b : ℕ) → a ≤ b → nat_le a b ≡ true
-at_most a b h = grind (arith, nat_tests)
 
 -- ---- the numbers of expressions
 

@@ -1,8 +1,7 @@
 -- The parse tree of a text within the limits passes its test.
-use Rattle.std.proofs.Common.{◌≡◌, ℕ, ◌+◌, ◌≤◌, refl, ap, sym, ◌∙◌, arith, List, [], ◌∷◌, ◌++◌, Bool, true, false, Option, Some, None}
+use Rattle.std.proofs.Common.{◌≡◌, ℕ, ◌+◌, ◌≤◌, refl, ap, ◌∙◌, arith, List, [], ◌∷◌, Bool, true, false}
 use Rattle.std.specs.Prelude.{◌&&◌, ◌||◌, not, nat_le}
 use Rattle.std.specs.List.{list_all}
-use Rattle.std.proofs.lemmas.Bool.Decides.{nat_tests}
 use Rattle.pc_text.specs.Bytes.{Bytes}
 use Rattle.pc_grammar.specs.declared.symbol.Symbol.{Symbol}
 use Rattle.pc_grammar.specs.declared.symbol.Terminal.TheVariants as terminal
@@ -12,17 +11,18 @@ use Rattle.pc_grammar.specs.declared.tree.StmtTree.{StmtTree}
 use Rattle.pc_grammar.specs.declared.tree.ProgramTree.{ProgramTree}
 use Rattle.pc_grammar.specs.Combinators.{Text, is_map, is_both, is_maybe, is_many}
 use Rattle.pc_grammar.specs.Terminals.{the, is_one}
-use Rattle.pc_grammar.specs.Expressions as grammar
 use Rattle.pc_grammar.specs.Statements as stmts
 use Rattle.pc_grammar.specs.Programs as programs
 use Rattle.pc_grammar.specs.Limits.{start, Within}
 use Rattle.pc_syntax.specs.Showable.{is_literal}
 use Rattle.pc_syntax.specs.ShownTrees as short
-use Rattle.pc_syntax.proofs.Results.{and_is, and_of}
+use Rattle.pc_syntax.proofs.Results.{and_is, and_of, at_most}
+use Rattle.pc_syntax.proofs.Phrases.{all_join}
 use Rattle.pc_syntax.proofs.Seen.{IsOne, level_behind, Sees, one_sees, map_sees, both_sees, maybe_sees, many_sees}
 use Rattle.pc_syntax.proofs.SeenExprs.{spelled, Passes}
 use Rattle.pc_syntax.proofs.SeenTests.{Holds, seconds_are, enclosed_sees}
-use Rattle.pc_syntax.proofs.SeenStmts.{Nests, opening, stmts_see, block_sees}
+use Rattle.pc_syntax.proofs.Nesting.{Nests, opening}
+use Rattle.pc_syntax.proofs.SeenStmts.{stmts_see, block_sees}
 
 -- ---- names
 
@@ -30,10 +30,6 @@ name_by : (a b c : Bool) → (a && (not b || c)) ≡ true → b ≡ true → c �
 name_by true true c h e = h
 name_by true false c h e = absurd (cc)
 name_by false b c h e = absurd (cc)
-
-all_join : (F : Symbol → Bool) (xs ys : List Symbol) → list_all F xs ≡ true → list_all F ys ≡ true → list_all F (xs ++ ys) ≡ true
-all_join F [] ys h k = k
-all_join F (s ∷ xs) ys h k = let p = and_is (F s) (list_all F xs) h in and_of (F s) (list_all F (xs ++ ys)) p.0 (all_join F xs ys p.1 k)
 
 module _ (src : Bytes) where
   -- symbols that are spelled by names
@@ -114,9 +110,6 @@ module _ (src : Bytes) where
       let more = o.room in
       let q = r (omega arith) in
       omega arith
-
-  at_most : (a b : ℕ) → a ≤ b → nat_le a b ≡ true
-  at_most a b h = grind (arith, nat_tests)
 
   program_sees : (n : ℕ) → Sees (spelled src) (programs.is_program n) (λ t c d. c.braces ≡ 0 → short.short_tree src t ≡ true)
   unfolding Named

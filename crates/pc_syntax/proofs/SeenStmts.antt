@@ -1,137 +1,25 @@
 -- What a text within the limits says of its statements: their expressions are short, and no more braces are open than may be.
-use Rattle.std.proofs.Common.{◌≡◌, ℕ, zero, suc, ◌+◌, ◌-◌, ◌≤◌, ◌<◌, refl, ap, sym, ◌∙◌, arith, List, [], ◌∷◌, map, Bool, true, false, cond, Option, Some, None}
-use Rattle.std.specs.Prelude.{◌&&◌, nat_lt, max}
+use Rattle.std.proofs.Common.{◌≡◌, ℕ, zero, suc, ◌+◌, ◌-◌, refl, ap, ◌∙◌, arith, List, [], ◌∷◌}
+use Rattle.std.specs.Prelude.{◌&&◌, max}
 use Rattle.std.specs.List.{list_all}
-use Rattle.std.proofs.lemmas.Bool.Decides.{nat_tests}
 use Rattle.pc_text.specs.Bytes.{Bytes}
-use Rattle.pc_text.specs.declared.place.Place.{Place}
 use Rattle.pc_grammar.specs.declared.symbol.Symbol.{Symbol}
 use Rattle.pc_grammar.specs.declared.symbol.Terminal.{Terminal}
 use Rattle.pc_grammar.specs.declared.symbol.Terminal.TheVariants as terminal
 use Rattle.pc_grammar.specs.declared.limits.Counts.{Counts}
-use Rattle.pc_grammar.specs.declared.limits.TheConstants.{BRACES}
-use Rattle.pc_grammar.specs.declared.tree.CompareTree.{CompareTree}
-use Rattle.pc_grammar.specs.declared.tree.TestTree.{TestTree}
-use Rattle.pc_grammar.specs.declared.tree.RightTree.{RightTree}
-use Rattle.pc_grammar.specs.declared.tree.StmtTree.{StmtTree, fold-roll-StmtTree}
-use Rattle.pc_grammar.specs.declared.tree.StmtTree.TheOpen as stmt_open
-use Rattle.pc_grammar.specs.declared.tree.StmtTree.TheVariants as stmt_is
-use Rattle.pc_grammar.specs.Combinators.{Lang, is_map, is_both, is_either, is_maybe, is_many}
-use Rattle.pc_grammar.specs.Terminals.{has, is_one}
+use Rattle.pc_grammar.specs.declared.tree.StmtTree.{StmtTree}
+use Rattle.pc_grammar.specs.Combinators.{Lang, is_both, is_either, is_maybe}
+use Rattle.pc_grammar.specs.Terminals.{is_one}
 use Rattle.pc_grammar.specs.Expressions as grammar
 use Rattle.pc_grammar.specs.Rights as rights
 use Rattle.pc_grammar.specs.Statements as stmts
-use Rattle.pc_grammar.specs.Limits.{one_more, braces_after}
 use Rattle.pc_syntax.specs.ShownTrees as short
 use Rattle.pc_syntax.proofs.Results.{and_of}
+use Rattle.pc_syntax.proofs.ShortStmts.{short-set, short-if, short-while, short-assert, short-assume, nesting-set, nesting-if, nesting-while, nesting-assert, nesting-assume}
+use Rattle.pc_syntax.proofs.Nesting.{Nests, MayNest, Closes, closing, flat_nests, renamed, moved, tested_too, two_blocks, block_nests}
 use Rattle.pc_syntax.proofs.Seen.{IsOne, level_behind, Sees, one_sees, map_sees, both_sees, either_sees, maybe_sees, many_sees, dead_sees}
-use Rattle.pc_syntax.proofs.SeenExprs.{spelled, Passes}
+use Rattle.pc_syntax.proofs.SeenExprs.{spelled}
 use Rattle.pc_syntax.proofs.SeenTests.{Holds, behind, closed, enclosed_sees, all_sees, test_sees, right_sees}
-
--- ---- the tests of each kind of statement
-
-short-set : (s : Symbol) (r : RightTree) → short.short_stmt (stmt_is.Set s r) ≡ short.short_expr r.expr
-short-set s r = ap short.short_stmt (sym (stmt_is.rolls-Set s r)) ∙ fold-roll-StmtTree Bool short.short_step (stmt_open.Set s r)
-
-short-if : (p : Place) (t : TestTree) (xs ys : List StmtTree) → short.short_stmt (stmt_is.If p t xs ys) ≡ (short.short_test t && (short.short_stmts xs && short.short_stmts ys))
-short-if p t xs ys = ap short.short_stmt (sym (stmt_is.rolls-If p t xs ys)) ∙ fold-roll-StmtTree Bool short.short_step (stmt_open.If p t xs ys)
-
-short-while : (p : Place) (t : TestTree) (cs : List CompareTree) (xs : List StmtTree) → short.short_stmt (stmt_is.While p t cs xs) ≡ (short.short_test t && (list_all short.short_compare cs && short.short_stmts xs))
-short-while p t cs xs = ap short.short_stmt (sym (stmt_is.rolls-While p t cs xs)) ∙ fold-roll-StmtTree Bool short.short_step (stmt_open.While p t cs xs)
-
-short-assert : (p : Place) (cs : List CompareTree) → short.short_stmt (stmt_is.Assert p cs) ≡ list_all short.short_compare cs
-short-assert p cs = ap short.short_stmt (sym (stmt_is.rolls-Assert p cs)) ∙ fold-roll-StmtTree Bool short.short_step (stmt_open.Assert p cs)
-
-short-assume : (p : Place) (cs : List CompareTree) → short.short_stmt (stmt_is.Assume p cs) ≡ list_all short.short_compare cs
-short-assume p cs = ap short.short_stmt (sym (stmt_is.rolls-Assume p cs)) ∙ fold-roll-StmtTree Bool short.short_step (stmt_open.Assume p cs)
-
-nesting-set : (s : Symbol) (r : RightTree) → short.nesting (stmt_is.Set s r) ≡ 0
-nesting-set s r = ap short.nesting (sym (stmt_is.rolls-Set s r)) ∙ fold-roll-StmtTree ℕ short.nesting_step (stmt_open.Set s r)
-
-nesting-if : (p : Place) (t : TestTree) (xs ys : List StmtTree) → short.nesting (stmt_is.If p t xs ys) ≡ 1 + max (short.nesting_of xs) (short.nesting_of ys)
-nesting-if p t xs ys = ap short.nesting (sym (stmt_is.rolls-If p t xs ys)) ∙ fold-roll-StmtTree ℕ short.nesting_step (stmt_open.If p t xs ys)
-
-nesting-while : (p : Place) (t : TestTree) (cs : List CompareTree) (xs : List StmtTree) → short.nesting (stmt_is.While p t cs xs) ≡ 1 + short.nesting_of xs
-nesting-while p t cs xs = ap short.nesting (sym (stmt_is.rolls-While p t cs xs)) ∙ fold-roll-StmtTree ℕ short.nesting_step (stmt_open.While p t cs xs)
-
-nesting-assert : (p : Place) (cs : List CompareTree) → short.nesting (stmt_is.Assert p cs) ≡ 0
-nesting-assert p cs = ap short.nesting (sym (stmt_is.rolls-Assert p cs)) ∙ fold-roll-StmtTree ℕ short.nesting_step (stmt_open.Assert p cs)
-
-nesting-assume : (p : Place) (cs : List CompareTree) → short.nesting (stmt_is.Assume p cs) ≡ 0
-nesting-assume p cs = ap short.nesting (sym (stmt_is.rolls-Assume p cs)) ∙ fold-roll-StmtTree ℕ short.nesting_step (stmt_open.Assume p cs)
-
--- ---- braces
-
-pub record Opens (n m : ℕ) : Type 0 where
-  pub sum : m ≡ n + 1
-  pub room : n < BRACES
-
-pub opening : (n m : ℕ) (k : Terminal) → has (terminal.OpenBrace ∷ []) k ≡ true → braces_after n k ≡ Some m → Opens n m
-opening n m terminal.OpenBrace h e = by (nat_lt n BRACES) refl e
-  where
-    by : (b : Bool) → nat_lt n BRACES ≡ b → cond b (Some (n + 1)) None ≡ Some m → Opens n m
-    by true g e = let f : n + 1 ≡ m = cc in record { sum = sym f; room = below n BRACES g }
-      where
-        below : (a b : ℕ) → nat_lt a b ≡ true → a < b
-        below a b h = grind (arith, nat_tests)
-    by false g e = absurd (cc)
-opening n m k h e = absurd (cc)
-
-pub closing : (n m : ℕ) (k : Terminal) → has (terminal.CloseBrace ∷ []) k ≡ true → braces_after n k ≡ Some m → m ≡ n - 1
-closing n m terminal.CloseBrace h e = let f : n - 1 ≡ m = cc in sym f
-closing n m k h e = absurd (cc)
-
--- a test of a phrase is passed, the braces are as before, and the phrase has so many levels of blocks
-pub record Nests (b : Bool) (n : ℕ) (c d : Counts) : Type 0 where
-  pub passed : b ≡ true
-  pub level : d.braces ≡ c.braces
-  pub room : c.braces ≤ BRACES → c.braces + n ≤ BRACES
-
--- the same of what may be left out
-record MayNest (b : Bool) (n : ℕ) (c d : Counts) : Type 0 where
-  passed : b ≡ true
-  level : d.braces ≡ c.braces
-  room : c.braces ≤ BRACES → 0 < n → c.braces + (1 + n) ≤ BRACES
-
--- a statement without blocks
-flat_nests : (b b' : Bool) (n : ℕ) (c d : Counts) → b' ≡ b → n ≡ 0 → Holds b c d → Nests b' n c d
-flat_nests b b' n c d e z i = record { passed = e ∙ i.passed; level = i.level; room = λ h. omega arith }
-
--- ---- one phrase behind another
-
-renamed : (p q : Bool) (m k : ℕ) (c d : Counts) → q ≡ p → k ≡ m → Nests p m c d → Nests q k c d
-renamed p q m k c d e f i = record { passed = e ∙ i.passed; level = i.level; room = λ h. let r = i.room h in omega arith }
-
-moved : (p : Bool) (m : ℕ) (c e d : Counts) → e.braces ≡ c.braces → Nests p m e d → Nests p m c d
-moved p m c e d l i = record { passed = i.passed; level = i.level ∙ l; room = λ h. let r = i.room (omega arith) in omega arith }
-
-tested_too : (t p : Bool) (m : ℕ) (c e d : Counts) → Holds t c e → Nests p m e d → Nests (t && p) m c d
-tested_too t p m c e d i j =
-    let l = i.level in
-    record { passed = and_of t p i.passed j.passed; level = j.level ∙ l; room = λ h. let r = j.room (omega arith) in omega arith }
-
-room_by : (c e b m k : ℕ) → e ≡ c → c + (1 + m) ≤ b → (0 < k → e + (1 + k) ≤ b) → c + (1 + max m k) ≤ b
-room_by c e b m zero s h g = omega arith
-room_by c e b m (suc k) s h g = let j = g (omega arith) in omega arith
-
-two_blocks : (p q : Bool) (m k : ℕ) (c e d : Counts) → Nests p (1 + m) c e → MayNest q k e d → Nests (p && q) (1 + max m k) c d
-two_blocks p q m k c e d i j =
-    let l = i.level in
-    record { passed = and_of p q i.passed j.passed; level = j.level ∙ l; room = λ h. room_by c.braces e.braces BRACES m k l (i.room h) (λ z. j.room (omega arith) z) }
-
--- statements, and the brace behind them
-pub record Closes (b : Bool) (n : ℕ) (c d : Counts) : Type 0 where
-  pub passed : b ≡ true
-  pub level : d.braces ≡ c.braces - 1
-  pub room : c.braces ≤ BRACES → c.braces + n ≤ BRACES
-
-block_nests : (f : Symbol → Bool) (b : Bool) (n : ℕ) (s : Symbol) (c e d : Counts) → IsOne f (terminal.OpenBrace ∷ []) s c e → Closes b n e d → Nests b (1 + n) c d
-block_nests f b n s c e d i j =
-    let o = opening c.braces e.braces s.terminal i.is i.braces in
-    let sum = o.sum in
-    let more = o.room in
-    let l = j.level in
-    record { passed = j.passed; level = omega arith; room = λ h. let r = j.room (omega arith) in omega arith }
 
 module _ (src : Bytes) (n : ℕ) where
   -- a phrase, then one that holds behind a keyword

@@ -1,5 +1,5 @@
 -- What a text within the limits says of its comparisons, tests and right sides.
-use Rattle.std.proofs.Common.{◌≡◌, ℕ, ◌+◌, ◌≤◌, pos, refl, ap, sym, ◌∙◌, arith, List, [], ◌∷◌, Bool, true, false, Option, Some, None}
+use Rattle.std.proofs.Common.{◌≡◌, ℕ, pos, refl, ap, ◌∙◌, List, [], ◌∷◌, Bool, true, Option, Some, None}
 use Rattle.std.specs.Prelude.{◌&&◌, nat_le}
 use Rattle.std.specs.List.{list_all}
 use Rattle.pc_text.specs.Bytes.{Bytes}
@@ -8,14 +8,10 @@ use Rattle.pc_grammar.specs.declared.symbol.Terminal.{Terminal}
 use Rattle.pc_grammar.specs.declared.symbol.Terminal.TheVariants as terminal
 use Rattle.pc_grammar.specs.declared.limits.Counts.{Counts}
 use Rattle.pc_grammar.specs.declared.limits.TheConstants.{SIGNS}
-use Rattle.pc_grammar.specs.declared.tree.Bound.{Bound}
 use Rattle.pc_grammar.specs.declared.tree.Choice.{Choice}
 use Rattle.pc_grammar.specs.declared.tree.ExprTree.{ExprTree}
 use Rattle.pc_grammar.specs.declared.tree.ExprTree.TheVariants as expr_is
-use Rattle.pc_grammar.specs.declared.tree.CompareTree.{CompareTree}
-use Rattle.pc_grammar.specs.declared.tree.TestTree.{TestTree}
-use Rattle.pc_grammar.specs.declared.tree.RightTree.{RightTree}
-use Rattle.pc_grammar.specs.Combinators.{Lang, is_map, is_both, is_either, is_maybe, is_many}
+use Rattle.pc_grammar.specs.Combinators.{Lang, is_map, is_both, is_maybe, is_many}
 use Rattle.pc_grammar.specs.Terminals.{is_one, is_one_of}
 use Rattle.pc_grammar.specs.Expressions as grammar
 use Rattle.pc_grammar.specs.Rights as rights

@@ -1,29 +1,23 @@
 -- The walk keeps the signs, the numbers and the nesting of statements.
-use Rattle.std.proofs.Common.{◌≡◌, ℕ, ◌+◌, refl, ap, sym, ◌∙◌, subst, List, [], ◌∷◌, map, Bool, true, false, cond, Option, Result, Ok, Err}
+use Rattle.std.proofs.Common.{◌≡◌, ℕ, ◌+◌, refl, ap, sym, ◌∙◌, subst, List, [], ◌∷◌, Bool, false, Result, Ok, Err}
 use Rattle.std.specs.Prelude.{◌&&◌, IfOk, max}
 use Rattle.std.specs.List.{AllByRecursion, list_all}
 use Rattle.pc_text.specs.Bytes.{Bytes}
 use Rattle.pc_text.specs.declared.place.Place.{Place}
 use Rattle.pc_rows.specs.Linear.{Linear}
 use Rattle.pc_grammar.specs.declared.symbol.Symbol.{Symbol}
-use Rattle.pc_grammar.specs.declared.tree.Choice.{Choice}
 use Rattle.pc_grammar.specs.declared.tree.CompareTree.{CompareTree}
 use Rattle.pc_grammar.specs.declared.tree.TestTree.{TestTree}
 use Rattle.pc_grammar.specs.declared.tree.TestTree.TheVariants as tree_test
 use Rattle.pc_grammar.specs.declared.tree.RightTree.{RightTree}
 use Rattle.pc_grammar.specs.declared.tree.StmtTree.{StmtTree, StmtTree-F, map-StmtTree, roll-StmtTree, fold-roll-StmtTree}
 use Rattle.pc_grammar.specs.declared.tree.StmtTree.TheOpen as tree
-use Rattle.pc_syntax.specs.declared.tree.Compare.{Compare}
-use Rattle.pc_syntax.specs.declared.tree.Test.{Test}
 use Rattle.pc_syntax.specs.declared.tree.Test.TheVariants as test
-use Rattle.pc_syntax.specs.declared.tree.Right.{Right}
 use Rattle.pc_syntax.specs.declared.tree.Stmt.{Stmt}
 use Rattle.pc_syntax.specs.declared.tree.Stmt.TheVariants as s
-use Rattle.pc_syntax.specs.declared.normal.AffineFault.{AffineFault}
 use Rattle.pc_syntax.specs.declared.fault.SourceFault.{SourceFault}
 use Rattle.pc_syntax.specs.declared.walk.Formed.{Formed}
 use Rattle.pc_syntax.specs.declared.walk.Counted.{Counted}
-use Rattle.pc_syntax.specs.declared.walk.CountedList.{CountedList}
 use Rattle.pc_syntax.specs.Forms.{bind, rows_by, fit_rows}
 use Rattle.pc_syntax.specs.Context as walk
 use Rattle.pc_syntax.specs.Showable as shown

@@ -1,5 +1,5 @@
 -- The canonical text of an expression has no more signs than any word of it.
-use Rattle.std.proofs.Common.{◌≡◌, ℕ, zero, suc, ◌+◌, ◌≤◌, ℤ, refl, ap, sym, ◌∙◌, subst, arith, List, [], ◌∷◌, ◌++◌, append_assoc, Bool, true, false, Option, Some, None, inl, inr}
+use Rattle.std.proofs.Common.{◌≡◌, ℕ, zero, suc, ◌+◌, ◌≤◌, ℤ, refl, ap, sym, ◌∙◌, arith, List, [], ◌∷◌, ◌++◌, Bool, true, false, Some, None, inl, inr}
 use Rattle.std.specs.Prelude.{not}
 use Rattle.pc_text.specs.declared.place.Place.{Place}
 use Rattle.pc_grammar.specs.declared.symbol.Symbol.{Symbol}
@@ -8,8 +8,8 @@ use Rattle.pc_grammar.specs.declared.symbol.Terminal.TheVariants as terminal
 use Rattle.pc_grammar.specs.declared.tree.ExprTree.{ExprTree, ExprTree-F, map-ExprTree, roll-ExprTree, fold-roll-ExprTree}
 use Rattle.pc_grammar.specs.declared.tree.ExprTree.TheOpen as tree
 use Rattle.pc_grammar.specs.declared.tree.ExprTree.TheVariants as expr_is
-use Rattle.pc_grammar.specs.Combinators.{Text, Lang, is_both, is_many, is_maybe, starts}
-use Rattle.pc_grammar.specs.Terminals.{the, has, among, is_one, is_one_of}
+use Rattle.pc_grammar.specs.Combinators.{Text, Lang, is_many, starts}
+use Rattle.pc_grammar.specs.Terminals.{the, has}
 use Rattle.pc_grammar.specs.Expressions as grammar
 use Rattle.pc_grammar.specs.Limits.{is_sign}
 use Rattle.pc_grammar.proofs.Expressions.{Opens, begins_expr, addend_begins, paren_begins}

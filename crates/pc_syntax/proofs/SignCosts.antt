@@ -1,18 +1,17 @@
 -- The counted signs of the words of expressions: no fewer than those of their canonical texts, and within the limit no more than it.
-use Rattle.std.proofs.Common.{◌≡◌, ℕ, zero, suc, ◌+◌, ◌<◌, ◌≤◌, refl, ap, sym, ◌∙◌, subst, arith, List, [], ◌∷◌, ◌++◌, append_assoc, Bool, true, false, cond, Option, Some, None, inl, inr, Result, Ok, Err}
+use Rattle.std.proofs.Common.{◌≡◌, ℕ, zero, suc, ◌+◌, ◌<◌, ◌≤◌, refl, ap, sym, ◌∙◌, arith, [], ◌∷◌, ◌++◌, append_assoc, Bool, true, false, cond, Option, Some, None, Result, Ok, Err}
 use Rattle.std.specs.Prelude.{nat_lt}
 use Rattle.std.specs.List.{list_all}
 use Rattle.std.proofs.lemmas.Bool.Decides.{nat_tests}
 use Rattle.pc_grammar.specs.declared.symbol.Symbol.{Symbol}
 use Rattle.pc_grammar.specs.declared.symbol.Terminal.{Terminal}
-use Rattle.pc_grammar.specs.declared.symbol.Terminal.TheVariants as terminal
 use Rattle.pc_grammar.specs.declared.limits.Counts.{Counts}
 use Rattle.pc_grammar.specs.declared.limits.TheConstants.{SIGNS}
 use Rattle.pc_grammar.specs.declared.fault.ParseFault.{ParseFault}
 use Rattle.pc_grammar.specs.declared.fault.ParseFault.TheVariants.{TooDeep, TooLong}
-use Rattle.pc_grammar.specs.Combinators.{Text, starts}
+use Rattle.pc_grammar.specs.Combinators.{Text}
 use Rattle.pc_grammar.specs.Terminals.{among, has}
-use Rattle.pc_grammar.specs.Limits.{keywords, of_expressions, one_more, signs_after, is_sign, or_else, braces_after, ands_after, counted, and_on, counts}
+use Rattle.pc_grammar.specs.Limits.{keywords, of_expressions, signs_after, is_sign, or_else, braces_after, ands_after, counted, and_on, counts}
 use Rattle.pc_grammar.proofs.Sets.{parted}
 use Rattle.pc_syntax.proofs.Results.{and_is}
 

@@ -1,17 +1,16 @@
 -- The symbols of a text: names are spelled by names of the language, and numbers are those of tokens.
-use Rattle.std.proofs.Common.{◌≡◌, ℕ, ◌+◌, ◌-◌, ◌≤◌, pos, refl, ap, sym, ◌∙◌, subst, arith, List, [], ◌∷◌, ◌++◌, append_assoc, length, length-append, take, drop, Bool, true, false, cond, Option, Some, None, Ok}
+use Rattle.std.proofs.Common.{◌≡◌, ℕ, ◌+◌, ◌-◌, ◌≤◌, pos, refl, ap, sym, ◌∙◌, arith, List, [], ◌∷◌, ◌++◌, append_assoc, length, length-append, take, drop, Bool, true, false, cond, Some, Ok}
 use Rattle.std.specs.Prelude.{◌&&◌, ◌||◌, not, nat_le, slice_range, bytes_eq, codes, nat_eq}
 use Rattle.std.specs.List.{list_all}
 use Rattle.std.proofs.lemmas.List.{take_at, drop_at}
 use Rattle.std.proofs.lemmas.Bool.Decides.{nat_tests}
 use Rattle.pc_text.specs.Bytes.{Bytes}
-use Rattle.pc_text.specs.Lexemes.{Lexeme, HasForm, EachPasses, AllFit, Fits, IsSplit, class, in_word, kind_of, is_keyword, word_kind, with_token, tokens_from}
+use Rattle.pc_text.specs.Lexemes.{Lexeme, HasForm, EachPasses, AllFit, Fits, IsSplit, class, in_word, kind_of, is_keyword, with_token, tokens_from}
 use Rattle.pc_text.specs.Digits.{natural_of}
 use Rattle.pc_text.specs.declared.token.Token.{Token}
 use Rattle.pc_text.specs.declared.token.Kind.{Kind}
 use Rattle.pc_text.specs.declared.token.Kind.TheVariants as kind
 use Rattle.pc_text.specs.declared.token.TheConstants.{LARGEST, NAME_BYTES}
-use Rattle.pc_text.specs.declared.lexeme.Class.TheVariants.{Letter}
 use Rattle.pc_text.specs.declared.lexeme.Form.{Form}
 use Rattle.pc_text.specs.declared.lexeme.Form.TheVariants as form
 use Rattle.pc_text.specs.Answers.{Means}
@@ -20,7 +19,7 @@ use Rattle.pc_grammar.specs.declared.symbol.Terminal.{Terminal}
 use Rattle.pc_grammar.specs.declared.symbol.Terminal.TheVariants as terminal
 use Rattle.pc_grammar.specs.Terminals.{has}
 use Rattle.pc_syntax.specs.Showable.{is_letter, is_word, is_name, is_literal}
-use Rattle.pc_syntax.proofs.Results.{and_of}
+use Rattle.pc_syntax.proofs.Results.{and_of, at_most}
 use Rattle.pc_syntax.proofs.SeenExprs.{spelled}
 
 -- ---- keywords and signs are no names
@@ -64,9 +63,6 @@ each_passes p (b ∷ w) h = and_of (p b) (list_all p w) h.0 (each_passes p w h.1
 word_is : (w : Bytes) → HasForm form.Word w → is_word w ≡ true
 word_is [] h = absurd h
 word_is (b ∷ w) h = and_of (is_letter (class b)) (list_all in_word w) (ap is_letter h.0) (each_passes in_word w h.1)
-
-at_most : (a b : ℕ) → a ≤ b → nat_le a b ≡ true
-at_most a b h = grind (arith, nat_tests)
 
 name_is : (w : Bytes) → HasForm form.Word w → length w ≤ NAME_BYTES → is_keyword w ≡ false → is_name w ≡ true
 name_is w h l k = and_of (is_word w) (nat_le (length w) NAME_BYTES && not (is_keyword w)) (word_is w h) (and_of (nat_le (length w) NAME_BYTES) (not (is_keyword w)) (at_most (length w) NAME_BYTES l) (ap not k))

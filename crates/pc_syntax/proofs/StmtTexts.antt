@@ -1,6 +1,5 @@
 -- The text of a statement, a push at a time.
-use Rattle.std.proofs.Common.{◌≡◌, ℕ, zero, suc, ◌+◌, ◌<◌, refl, ap, sym, ◌∙◌, arith, List, [], ◌∷◌, ◌++◌, append_assoc, length, get_or, map, Bool, true, codes}
-use Rattle.std.specs.Prelude.{◌&&◌}
+use Rattle.std.proofs.Common.{◌≡◌, ℕ, zero, suc, ◌+◌, ◌<◌, refl, ap, sym, ◌∙◌, arith, List, [], ◌∷◌, ◌++◌, append_assoc, length, get_or, map, true, codes}
 use Rattle.std.proofs.lemmas.Grind.{flat_map-append}
 use Rattle.pc_text.specs.Bytes.{Bytes}
 use Rattle.pc_text.specs.declared.place.Place.{Place}
@@ -12,7 +11,7 @@ use Rattle.pc_syntax.specs.declared.tree.Stmt.{Stmt}
 use Rattle.pc_syntax.specs.declared.tree.Stmt.TheVariants as s
 use Rattle.pc_syntax.specs.Pieces.{Piece, Blank, LineEnd, Mark, spelling, spelled, blanks, bytes_of}
 use Rattle.pc_syntax.specs.Canonical.{opened, block, else_part, test_pieces, all_pieces, tried_pieces, stmt_pieces, stmts_pieces}
-use Rattle.pc_syntax.specs.Named.{named_stmt, named_stmts}
+use Rattle.pc_syntax.specs.Naming.{named_stmt, named_stmts}
 use Rattle.pc_syntax.proofs.Results.{and_is}
 use Rattle.pc_syntax.proofs.Laid.{if_laid, while_laid, assert_laid, assume_laid}
 

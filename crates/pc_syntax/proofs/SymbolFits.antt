@@ -17,7 +17,7 @@ use Rattle.pc_grammar.specs.Symbols.{value_of, symbol_of, symbols_of}
 use Rattle.pc_grammar.specs.declared.symbol.Symbol.{Symbol}
 use Rattle.pc_rows.specs.Linear.{in_range}
 use Rattle.pc_syntax.specs.Trees.{fit_symbol}
-use Rattle.pc_syntax.proofs.Results.{and_is, and_of}
+use Rattle.pc_syntax.proofs.Results.{and_is, and_of, at_most}
 
 -- a symbol of a text of n bytes whose number is in range
 abbrev pub fits : ℕ → Symbol → Bool
@@ -26,9 +26,6 @@ fits n s = fit_symbol n s && in_range s.number
 within : (low high : ℕ) (ts : List Token) → AreSpans low high ts → low ≤ high
 within low high [] h = h
 within low high (t ∷ ts) (a, b, h) = let w = within t.to high ts h in omega arith
-
-at_most : (a b : ℕ) → a ≤ b → nat_le a b ≡ true
-at_most a b h = grind (arith, nat_tests)
 
 in_range_of : (n : ℕ) → n ≤ LARGEST → in_range (pos n) ≡ true
 in_range_of n h = grind (arith, nat_tests)

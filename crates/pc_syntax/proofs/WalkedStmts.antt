@@ -29,7 +29,7 @@ use Rattle.pc_syntax.specs.Context as walk
 use Rattle.pc_syntax.specs.Context.{Content}
 use Rattle.pc_syntax.specs.Trees as trees
 use Rattle.pc_syntax.specs.Kept.{WalksAreSane}
-use Rattle.pc_syntax.proofs.Results.{and_is, and_of, bind_keeps}
+use Rattle.pc_syntax.proofs.Results.{and_is, and_of, at_most, bind_keeps}
 use Rattle.pc_syntax.proofs.Trees.{by_stmt, all_by}
 use Rattle.pc_syntax.proofs.Folds.{fold-set, fold-if, fold-while, fold-assert, fold-assume}
 use Rattle.pc_syntax.proofs.WalkedExprs.{resolved_test}
@@ -46,10 +46,10 @@ counted_adds n p k = by (nat_lt EDGES (k + n)) refl
   where
     by : (b : Bool) → nat_lt EDGES (k + n) ≡ b → IfOk {T = ℕ} {E = SourceFault} (cond b (Err (fault.TooManyEdges p)) (Ok (k + n))) (Adds n k)
     by true e = tt
-    by false e = record { sum = refl; within = at_most EDGES (k + n) e }
+    by false e = record { sum = refl; within = within_limit EDGES (k + n) e }
       where
-        at_most : (a b : ℕ) → nat_lt a b ≡ false → b ≤ a
-        at_most a b e = grind (arith, nat_tests)
+        within_limit : (a b : ℕ) → nat_lt a b ≡ false → b ≤ a
+        within_limit a b e = grind (arith, nat_tests)
 
 record IsCounted (n k : ℕ) (x : Counted) : Type 0 where
   kept : sane.sane_stmt n x.stmt ≡ true
@@ -235,9 +235,6 @@ names_declared src tree =
 
 -- ---- programs
 
-at_most_test : (a b : ℕ) → a ≤ b → nat_le a b ≡ true
-at_most_test a b h = grind (arith, nat_tests)
-
 walked : (src : Bytes) (n : ℕ) (tree : ProgramTree) → trees.fit_tree n tree ≡ true → IfOk (walk.checked src tree) (λ c. sane.is_sane c.names c.body ≡ true)
 walked src n tree fit =
     let f = and_is (list_all (trees.fit_symbol n) tree.params) (list_all (trees.fit_symbol n) tree.locals && trees.fit_stmts n tree.body) fit in
@@ -249,9 +246,9 @@ walked src n tree fit =
     let count = d.count in
     let total = b.total in
     let within = b.within in
-    and_of (nat_le (length tree.params) (length names)) _ (at_most_test (length tree.params) (length names) (omega arith))
-    (and_of (nat_le (length names) VARIABLES) _ (at_most_test (length names) VARIABLES few)
-    (and_of (sane.sane_stmts (length names) body.stmts) _ b.kept (at_most_test (sane.edges_of body.stmts) EDGES (omega arith)))))
+    and_of (nat_le (length tree.params) (length names)) _ (at_most (length tree.params) (length names) (omega arith))
+    (and_of (nat_le (length names) VARIABLES) _ (at_most (length names) VARIABLES few)
+    (and_of (sane.sane_stmts (length names) body.stmts) _ b.kept (at_most (sane.edges_of body.stmts) EDGES (omega arith)))))
     (stmts_counted src names d.few n tree.body g.1 1 (omega arith)))
     (names_declared src tree)
 

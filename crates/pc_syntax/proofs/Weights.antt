@@ -1,12 +1,7 @@
 -- The number of statements, by which the recursion over statements ends.
-use Rattle.std.proofs.Common.{◌≡◌, ℕ, zero, suc, ◌+◌, ◌<◌, ◌≤◌, List, [], ◌∷◌, length, get_or, map, sym, ap, ◌∙◌, arith}
-use Rattle.pc_text.specs.declared.place.Place.{Place}
-use Rattle.pc_syntax.specs.declared.tree.Compare.{Compare}
-use Rattle.pc_syntax.specs.declared.tree.Test.{Test}
+use Rattle.std.proofs.Common.{◌≡◌, ℕ, zero, suc, ◌+◌, ◌<◌, ◌≤◌, List, [], ◌∷◌, length, get_or, map, ap, arith}
 use Rattle.pc_syntax.specs.declared.tree.Stmt.{Stmt, Stmt-F, fold-Stmt}
 use Rattle.pc_syntax.specs.declared.tree.Stmt.TheOpen as stmt
-use Rattle.pc_syntax.specs.declared.tree.Stmt.TheVariants as s
-use Rattle.pc_syntax.proofs.Folds.{fold-if, fold-while}
 
 abbrev total : List ℕ → ℕ
 total [] = 0
@@ -25,15 +20,6 @@ weight x = fold-Stmt ℕ weight_step x
 
 abbrev pub weights : List Stmt → ℕ
 weights xs = 1 + total (map weight xs)
-
-pub then_smaller : (x : Stmt) (p : Place) (t : Test) (xs ys zs : List Stmt) → x ≡ s.If p t xs ys → zs ≡ xs → weights zs < weight x
-then_smaller x p t xs ys zs e same = rw (same, e) (let w = fold-if ℕ weight_step p t xs ys in omega arith)
-
-pub else_smaller : (x : Stmt) (p : Place) (t : Test) (xs ys zs : List Stmt) → x ≡ s.If p t xs ys → zs ≡ ys → weights zs < weight x
-else_smaller x p t xs ys zs e same = rw (same, e) (let w = fold-if ℕ weight_step p t xs ys in omega arith)
-
-pub body_smaller : (x : Stmt) (p : Place) (t : Test) (tried : List Compare) (xs zs : List Stmt) → x ≡ s.While p t tried xs → zs ≡ xs → weights zs < weight x
-body_smaller x p t tried xs zs e same = rw (same, e) (let w = fold-while ℕ weight_step p t tried xs in omega arith)
 
 weight_at : (xs : List Stmt) (i : ℕ) (x : Stmt) → i < length xs → weight (get_or xs i x) ≤ total (map weight xs)
 weight_at [] i x l = absurd (omega arith)

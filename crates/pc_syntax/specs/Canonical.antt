@@ -1,5 +1,5 @@
 -- The canonical text of a program, as pieces in the order in which the grammar reads them.
-use Rattle.std.specs.Prelude.{ℕ, ◌+◌, ℤ, pos, negsuc, suc, List, [], ◌∷◌, ◌++◌, map, take, drop, slice_index_or, Option, Some, None, Bool, true, false}
+use Rattle.std.specs.Prelude.{ℕ, ◌+◌, pos, negsuc, suc, List, [], ◌∷◌, ◌++◌, map, take, drop, slice_index_or, Option, Some, None, Bool, true, false}
 use Rattle.std.specs.List.{flat_map}
 use Rattle.pc_text.specs.Bytes.{Bytes}
 use Rattle.pc_text.specs.Named.{Named}

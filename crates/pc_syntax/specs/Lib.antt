@@ -5,7 +5,7 @@ pub mod Forms
 pub mod Kept
 pub mod Laws
 pub mod Loops
-pub mod Named
+pub mod Naming
 pub mod Pieces
 pub mod Sane
 pub mod Showable

@@ -1,5 +1,5 @@
 -- What every program keeps beside the context rules, so that its canonical text can be read: a test of its names and of its body.
-use Rattle.std.specs.Prelude.{ℕ, ◌+◌, ℤ, pos, negsuc, nat_le, max, List, [], ◌∷◌, ◌++◌, length, map, sum, Bool, true, false, ◌&&◌, not, is_some, if◌then◌else◌}
+use Rattle.std.specs.Prelude.{ℕ, ◌+◌, ℤ, pos, negsuc, nat_le, max, List, [], ◌∷◌, ◌++◌, length, map, Bool, true, false, ◌&&◌, not, is_some}
 use Rattle.std.specs.List.{list_all}
 use Rattle.pc_text.specs.Bytes.{Bytes}
 use Rattle.pc_text.specs.Named.{Named, number_of}

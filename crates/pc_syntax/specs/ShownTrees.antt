@@ -1,5 +1,5 @@
 -- What the grammar keeps of a parse tree, as a test, so that its program can be shown and read back.
-use Rattle.std.specs.Prelude.{ℕ, ◌+◌, nat_le, max, List, [], ◌∷◌, map, Bool, true, false, ◌&&◌}
+use Rattle.std.specs.Prelude.{ℕ, ◌+◌, nat_le, max, List, map, Bool, true, false, ◌&&◌}
 use Rattle.std.specs.List.{list_all}
 use Rattle.pc_text.specs.Bytes.{Bytes}
 use Rattle.pc_grammar.specs.declared.symbol.Symbol.{Symbol}

@@ -2,7 +2,7 @@
 
 ghost use Rattle.std.specs.Prelude.{◌≡◌, ◌++◌, true, length, codes, OnOk};
 ghost use Rattle.pc_syntax.specs.Canonical as spec;
-ghost use Rattle.pc_syntax.specs.Named.{named_compare, named_all, named_test};
+ghost use Rattle.pc_syntax.specs.Naming.{named_compare, named_all, named_test};
 ghost use Rattle.pc_syntax.specs.Pieces.{bytes_of};
 
 use crate::showing::exprs::push_expr;

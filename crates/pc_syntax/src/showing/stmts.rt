@@ -2,7 +2,7 @@
 
 ghost use Rattle.std.specs.Prelude.{◌≡◌, ◌<◌, ◌+◌, ◌++◌, true, length, map, codes, OnOk, IfOk};
 ghost use Rattle.pc_syntax.specs.Canonical as spec;
-ghost use Rattle.pc_syntax.specs.Named.{named_all, named_test, named_stmt, named_stmts};
+ghost use Rattle.pc_syntax.specs.Naming.{named_all, named_test, named_stmt, named_stmts};
 ghost use Rattle.pc_syntax.specs.Pieces.{bytes_of, blanks};
 ghost use Rattle.pc_syntax.specs.Sane.{names_below};
 

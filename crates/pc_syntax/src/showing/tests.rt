@@ -4,6 +4,7 @@ ghost use Rattle.std.specs.Prelude.{◌<◌, ◌-◌, ◌^◌, length};
 
 use crate::reading::read;
 use crate::showing::show;
+use pc_text::Text;
 use std::alloc::Global;
 use std::test::Fail;
 
@@ -134,5 +135,31 @@ assume(-a<=-(b-1));
 ";
     assert!(rt; shows(rt.alloc(), src, wanted)?);
     assert!(rt; shows(rt.alloc(), wanted, wanted)?);
+    Ok(())
+}
+
+/// A program of `n` tests, each in the block of the one before.
+fn nested(alloc: Global, n: u32) -> Result<Text, Fail> {
+    let mut text = Text::new(alloc);
+    text.push_all(b"entry () {")?;
+    for _ in 0..n {
+        text.push_all(b"if (*) {")?;
+    }
+    for _ in 0..n {
+        text.push_all(b"}")?;
+    }
+    text.push_all(b"}")?;
+    Ok(text)
+}
+
+#[test]
+fn the_deepest_program_is_shown_and_shown_again_as_it_is(rt: HostRuntime) -> Result<(), Fail> {
+    let alloc = rt.alloc();
+    let src = nested(alloc, 63)?;
+    let bytes = src.bytes();
+    assert!(rt; bytes.len() < 1_000);
+    let text = show(alloc, &read(alloc, bytes)?)?;
+    assert!(rt; text.bytes().len() < 10_000);
+    assert!(rt; shows(alloc, text.bytes(), text.bytes())?);
     Ok(())
 }

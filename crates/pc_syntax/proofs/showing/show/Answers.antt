@@ -1,5 +1,5 @@
 use Rattle.std.proofs.Common.{length, ap, ◌∙◌}
-use Rattle.pc_syntax.specs.Named.{named_stmts}
+use Rattle.pc_syntax.specs.Naming.{named_stmts}
 use Rattle.pc_syntax.proofs.SaneNames.{program_named}
 use Rattle.pc_syntax.proofs.showing.show.Goals as goal
 
