@@ -80,7 +80,7 @@ module _ (names : List Bytes) (x : Stmt) (p : Place) (margin t0 t1 : Bytes) (spa
         t4 ≡ t0 ++ bytes_of (stmt_pieces names x (length margin))
     if_done ys ys' is alike a b c d =
         let laid : stmt_pieces names x (length margin) ≡
-            Blank (length margin) ∷ opened terminal.If (test_pieces names t) ++ (block (map (stmt_pieces names) xs') (length margin) ++ (else_part (map (stmt_pieces names) ys') (length margin) ++ LineEnd ∷ [])) =
+        Blank (length margin) ∷ opened terminal.If (test_pieces names t) ++ (block (map (stmt_pieces names) xs') (length margin) ++ (else_part (map (stmt_pieces names) ys') (length margin) ++ LineEnd ∷ [])) =
         rw (is, same, alike) (if_laid names p t xs ys (length margin)) in
         let text = ap bytes_of laid ∙ tested_text (length margin) terminal.If (test_pieces names t) (block (map (stmt_pieces names) xs') (length margin)) (else_part (map (stmt_pieces names) ys') (length margin)) in
         margin_added margin t0 t4 _ _ (length margin) spaces text (three_added t0 t1 t2 t3 t4 _ _ _ _ a b c d ∙ ap (λ z. t0 ++ z) (regroup margin (codes "if") (bytes_of (test_pieces names t)) _ _
@@ -93,7 +93,7 @@ module _ (names : List Bytes) (x : Stmt) (p : Place) (margin t0 t1 : Bytes) (spa
         t4 ≡ t0 ++ bytes_of (stmt_pieces names x (length margin))
     while_done tried tried' is alike a b c d =
         let laid : stmt_pieces names x (length margin) ≡
-            Blank (length margin) ∷ opened terminal.While (test_pieces names t) ++ (tried_pieces names tried' ++ (block (map (stmt_pieces names) xs') (length margin) ++ LineEnd ∷ [])) =
+        Blank (length margin) ∷ opened terminal.While (test_pieces names t) ++ (tried_pieces names tried' ++ (block (map (stmt_pieces names) xs') (length margin) ++ LineEnd ∷ [])) =
         rw (is, same, alike) (while_laid names p t tried xs (length margin)) in
         let text = ap bytes_of laid ∙ tested_text (length margin) terminal.While (test_pieces names t) (tried_pieces names tried') (block (map (stmt_pieces names) xs') (length margin)) in
         let pushed = three_added t0 t1 t2 t3 t4 _ _ _ _ a b c d ∙ ap (λ z. t0 ++ ((margin ++ (codes "while" ++ (codes " (" ++ (bytes_of (test_pieces names t) ++ codes ")")))) ++ (bytes_of (tried_pieces names tried') ++ (z ++ codes "\n")))) (sym body_text) in

@@ -180,7 +180,10 @@ fn push_stmt(
             text.push_all(b"\n")
         }
         Stmt::While {
-            test, tried, body, ..
+            test,
+            tried,
+            body,
+            ..
         } => {
             push_tested(text, names, margin, b"while", test)?;
             push_tried(text, names, tried.as_slice())?;

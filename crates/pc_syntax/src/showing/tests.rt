@@ -19,8 +19,7 @@ fn shows(alloc: Global, src: &[u8], wanted: &[u8]) -> Result<bool, Fail>
 
 #[test]
 fn layout_is_that_of_the_language_and_not_of_the_source(rt: HostRuntime) -> Result<(), Fail> {
-    let src =
-        b"entry(x,y){var z;z=x- (y - 1)+[0,2];if(*){}else{assert(z<2&&x==-y);}}";
+    let src = b"entry(x,y){var z;z=x- (y - 1)+[0,2];if(*){}else{assert(z<2&&x==-y);}}";
     let wanted = b"entry (x, y) {
   var z;
   z = x - (y - 1) + [0, 2];
