@@ -1,7 +1,5 @@
 -- What is found of lists of rows, one after the other.
-use Rattle.std.proofs.Common.{◌≡◌, ℕ, ◌+◌, ◌<◌, ◌≤◌, ◌≤ℤ◌, pos, negsuc, sym, subst, arith, List, [], ◌∷◌, ◌++◌, length, drop, slice_get, Some, inl, inr, Bool, true, false, Result, Ok, Err}
-use Rattle.std.specs.Prelude.{◌⊎◌}
-use Rattle.std.specs.List.{AllByRecursion}
+use Rattle.std.proofs.Common.{◌≡◌, ℕ, ◌+◌, ◌≤◌, negsuc, sym, subst, arith, List, [], ◌∷◌, ◌++◌, length, drop, slice_get, Some, inl, inr, Bool, true, false, Result, Ok, Err}
 use Rattle.std.proofs.lemmas.Int.{ints}
 use Rattle.std.proofs.lemmas.List.{drop_all, append-nil}
 use Rattle.pc_rows.specs.declared.rows.NoMemory.{NoMemory}

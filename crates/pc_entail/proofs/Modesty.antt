@@ -1,17 +1,16 @@
 -- Of rows that are modest together, each question that arises is modest.
-use Rattle.std.proofs.Common.{◌≡◌, ℕ, zero, suc, ◌+◌, ◌≤◌, pos, neg_ℤ, refl, sym, ap, arith, List, [], ◌∷◌, ◌++◌, length, length-append, Bool, true, false, cond, inl, inr}
-use Rattle.std.specs.Prelude.{◌⊎◌, ◌||◌, not}
+use Rattle.std.proofs.Common.{◌≡◌, ℕ, zero, suc, ◌+◌, ◌≤◌, pos, refl, arith, List, [], ◌∷◌, ◌++◌, length, length-append, Bool, true, false, cond, inl, inr}
+use Rattle.std.specs.Prelude.{◌||◌, not}
 use Rattle.std.specs.List.{AllByRecursion}
 use Rattle.pc_rows.specs.declared.row.TheConstants.{VARIABLES}
-use Rattle.pc_rows.specs.declared.system.TheConstants.{MODEST_ROWS, MODEST_VARIABLES, MODEST_NUMBER}
+use Rattle.pc_rows.specs.declared.system.TheConstants.{MODEST_ROWS, MODEST_NUMBER}
 use Rattle.pc_rows.specs.Linear.{Linear, coefficient, is_zero, negation}
 use Rattle.pc_rows.specs.Bounds.{Within, AllWithin}
-use Rattle.pc_rows.specs.Modest.{occurs, occurring, refuting, IsModest}
+use Rattle.pc_rows.specs.Modest.{occurs, occurring, IsModest}
 use Rattle.pc_rows.proofs.Joining.{each_join}
 use Rattle.pc_rows.proofs.Lists.{zero_is}
-use Rattle.pc_entail.specs.Showing.{question, AllShown}
+use Rattle.pc_entail.specs.Showing.{question}
 use Rattle.pc_entail.specs.Reduction.{Reduces, Thins, Thinned, Reduced, AllModest, AreModest}
-use Rattle.pc_entail.specs.Steps.{FailsToShow}
 use Rattle.pc_entail.proofs.Weights.{negated_coefficient}
 
 -- a row has only variables that the rows have

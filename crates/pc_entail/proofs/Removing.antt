@@ -1,15 +1,13 @@
 -- What stays of rows that were gone through, and what went.
-use Rattle.std.proofs.Common.{◌≡◌, ℕ, refl, sym, subst, ◌∙◌, ap, List, [], ◌∷◌, ◌++◌, inl, inr, append_assoc, Bool, true}
-use Rattle.std.specs.Prelude.{◌⊎◌, ◌↔◌, ◌&&◌}
+use Rattle.std.proofs.Common.{◌≡◌, refl, sym, subst, ◌∙◌, List, [], ◌∷◌, ◌++◌, inl, inr, append_assoc, true}
+use Rattle.std.specs.Prelude.{◌↔◌}
 use Rattle.std.specs.List.{AllByRecursion, list_all}
 use Rattle.std.proofs.lemmas.List.{append-nil}
 use Rattle.pc_rows.specs.Linear.{Linear, State, Meets, MeetsAll}
-use Rattle.pc_rows.proofs.Joining.{each_right}
 use Rattle.pc_rows.proofs.Ranges.{and_is}
-use Rattle.pc_entail.specs.Showing.{IsShown, AllShown}
-use Rattle.pc_entail.specs.Reduction.{Reduced, Reduces, Thins, Thinned, IsSplit, RemovesShown}
+use Rattle.pc_entail.specs.Showing.{AllShown}
+use Rattle.pc_entail.specs.Reduction.{Reduces, Thins, Thinned, IsSplit, RemovesShown}
 use Rattle.pc_entail.specs.Laws.{ReductionsAreEqual, TestsAreKept}
-use Rattle.pc_entail.specs.Steps.{FailsToShow}
 use Rattle.pc_entail.proofs.Finding.{shown_rows_are_met}
 
 -- the later rows are split, and what stays shows all that went

@@ -1,9 +1,9 @@
 -- The definitions at worked values: x is variable 0.
-use Rattle.std.proofs.Common.{◌≡◌, ℤ, pos, negsuc, ◌≤ℤ◌, [], ◌∷◌, refl, arith, inl, inr}
+use Rattle.std.proofs.Common.{ℤ, pos, negsuc, [], ◌∷◌, refl, arith, inl, inr}
 use Rattle.std.proofs.lemmas.Int.{ints}
 use Rattle.pc_rows.specs.Linear.{Linear}
 use Rattle.pc_rows.proofs.Farkas.{refuted_is_not_shown}
-use Rattle.pc_entail.specs.Showing.{IsShown, AllShown}
+use Rattle.pc_entail.specs.Showing.{IsShown}
 use Rattle.pc_entail.specs.Reduction.{Reduced, IsSplit}
 
 abbrev row : ℤ → ℤ → Linear

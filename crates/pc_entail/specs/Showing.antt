@@ -1,5 +1,5 @@
 -- Which rows show which.
-use Rattle.std.specs.Prelude.{◌⊎◌, ◌++◌, pos, negsuc, neg_ℤ, ◌≤ℤ◌, Bool, true, false, List, [], ◌∷◌, Result, Ok, Err}
+use Rattle.std.specs.Prelude.{◌⊎◌, pos, negsuc, neg_ℤ, ◌≤ℤ◌, Bool, true, false, List, [], ◌∷◌, Result, Ok, Err}
 use Rattle.std.specs.List.{AllByRecursion}
 use Rattle.pc_rows.specs.declared.rows.NoMemory.{NoMemory}
 use Rattle.pc_rows.specs.Linear.{Linear, of_constant}

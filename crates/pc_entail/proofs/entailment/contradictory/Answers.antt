@@ -1,6 +1,3 @@
-use Rattle.std.proofs.Common.{subst, ◌++◌, List}
-use Rattle.pc_rows.specs.Linear.{Linear}
-use Rattle.pc_entail.specs.Showing.{ShowIs, minus_one}
 use Rattle.pc_entail.proofs.Finding.{contradictory_is, contradictory_states}
 use Rattle.pc_entail.proofs.entailment.contradictory.Goals as goal
 
