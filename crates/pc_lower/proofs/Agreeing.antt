@@ -1,5 +1,5 @@
 -- What a point needs depends on the rows at the targets of its edges alone, and these are at greater points or at heads.
-use Rattle.std.proofs.Common.{◌≡◌, ◌∙◌, ℕ, zero, suc, ◌<◌, ◌==◌, List, [], ◌∷◌, ◌++◌, length, sym, refl, ap, subst, eq-eqb, cond, Bool, true, false, arith, inl, inr}
+use Rattle.std.proofs.Common.{◌≡◌, ◌∙◌, ℕ, zero, suc, ◌<◌, ◌==◌, List, [], ◌∷◌, ◌++◌, length, sym, refl, ap, eq-eqb, cond, Bool, true, false, arith, inl, inr}
 use Rattle.std.specs.Prelude.{◌⊎◌}
 use Rattle.std.specs.List.{AllByRecursion as Each}
 use Rattle.std.proofs.lemmas.Bool.Decides.{eqb_tells}
@@ -11,7 +11,7 @@ use Rattle.pc_graph.specs.Exact.{Annotation}
 use Rattle.pc_graph.specs.Lists.{In}
 use Rattle.pc_graph.specs.Shape.{IsHead, LeadsUp}
 use Rattle.pc_lower.specs.Annotation.{is_head}
-use Rattle.pc_lower.specs.Need.{asked, leaving, gathered, needed_at}
+use Rattle.pc_lower.specs.Need.{asked, leaving, gathered}
 use Rattle.pc_lower.specs.Operations.{Operation, edge_operations, edges_operations}
 
 -- two annotations have the same rows at the targets of edges

@@ -1,5 +1,5 @@
 -- Operations that are carried out one after the other, and what is left of them.
-use Rattle.std.proofs.Common.{◌≡◌, ◌<◌, refl, arith, length, List, [], ◌∷◌, ◌++◌, Result, Ok, Err, sym, subst, inl, inr}
+use Rattle.std.proofs.Common.{◌≡◌, ◌<◌, refl, arith, length, List, [], ◌∷◌, ◌++◌, Result, Ok, Err, inl, inr}
 use Rattle.std.specs.List.{AllByRecursion as Each}
 use Rattle.pc_rows.specs.Linear.{Linear}
 use Rattle.pc_rows.specs.Joins.{PushIs}

@@ -1,19 +1,17 @@
 -- What an edge asks, and the operations by which it is joined.
-use Rattle.std.proofs.Common.{◌≡◌, ◌∙◌, ℕ, ◌+◌, ◌≤◌, List, [], ◌∷◌, ◌++◌, length, arith, sym, refl, ap, subst, Result, Ok, Err, inl, inr}
-use Rattle.std.specs.Prelude.{◌⊎◌}
+use Rattle.std.proofs.Common.{◌≡◌, ◌∙◌, ◌≤◌, List, [], ◌∷◌, ◌++◌, length, arith, sym, refl, ap, subst, Result, Ok, Err, inl, inr}
 use Rattle.std.specs.List.{AllByRecursion as Each}
 use Rattle.pc_rows.specs.Linear.{Linear}
 use Rattle.pc_rows.specs.Joins.{joined, with_row}
 use Rattle.pc_rows.specs.declared.rows.TheConstants.{ROWS}
 use Rattle.pc_rows.proofs.Joining.{joined-longer}
 use Rattle.pc_graph.specs.declared.what.What.{What}
-use Rattle.pc_graph.specs.declared.what.What.TheVariants.{Enter, Test, Set, Check}
+use Rattle.pc_graph.specs.declared.what.What.TheVariants.{Test, Check}
 use Rattle.pc_graph.specs.Carry.{back_all}
-use Rattle.pc_rows.proofs.Joining.{each_join}
 use Rattle.pc_lower.specs.declared.fault.CandidateFault.{CandidateFault}
 use Rattle.pc_lower.specs.declared.fault.CandidateFault.TheVariants.{Past, Full, NoMemory}
 use Rattle.pc_lower.specs.Need.{uncovered, asked}
-use Rattle.pc_lower.specs.Operations.{Operation, Carries, Joins, Fits, IsFirstFault, Answers, carries, edge_operations}
+use Rattle.pc_lower.specs.Operations.{Joins, Fits, IsFirstFault, Answers, carries, edge_operations}
 use Rattle.pc_lower.proofs.Answering.{fault_after, answer_after}
 
 -- joins one after the other

@@ -1,5 +1,5 @@
 -- Rows that are carried back or left out, one after the other.
-use Rattle.std.proofs.Common.{◌≡◌, ◌∙◌, ℕ, ◌+◌, List, [], ◌∷◌, ◌++◌, append-nil, ◌≤◌, drop, length, sym, refl, ap, subst, Some, slice_get, append_assoc, cond, Bool, true, false}
+use Rattle.std.proofs.Common.{◌≡◌, ◌∙◌, ℕ, ◌+◌, List, [], ◌∷◌, ◌++◌, append-nil, ◌≤◌, drop, length, sym, ap, subst, Some, slice_get, append_assoc, cond, Bool, true, false}
 use Rattle.std.specs.Prelude.{filter}
 use Rattle.std.specs.List.{AllByRecursion as Each}
 use Rattle.std.proofs.lemmas.List.{drop_all}

@@ -1,17 +1,15 @@
 -- Points that are completed one after the other.
-use Rattle.std.proofs.Common.{◌≡◌, ◌∙◌, ℕ, suc, zero, ◌+◌, ◌-◌, ◌<◌, ◌≤◌, List, [], ◌∷◌, ◌++◌, length, set, sym, refl, ap, subst, cond, Bool, true, false, arith, Err, Result, Ok, length-set}
+use Rattle.std.proofs.Common.{◌≡◌, ◌∙◌, ℕ, suc, zero, ◌≤◌, List, [], ◌++◌, length, set, sym, ap, subst, cond, Bool, true, false, arith, Err, Result, Ok, length-set}
 use Rattle.std.specs.List.{AllByRecursion as Each}
 use Rattle.pc_rows.specs.Linear.{Linear}
 use Rattle.pc_rows.specs.declared.rows.TheConstants.{ROWS}
-use Rattle.pc_graph.specs.Arc.{Arc}
-use Rattle.pc_graph.specs.Exact.{Annotation}
 use Rattle.pc_graph.specs.Flow.{Flow}
-use Rattle.pc_graph.specs.Shape.{LeadsUp, IsGraph}
+use Rattle.pc_graph.specs.Shape.{IsGraph}
 use Rattle.pc_lower.specs.declared.fault.CandidateFault.{CandidateFault}
 use Rattle.pc_lower.specs.declared.fault.CandidateFault.TheVariants.{Past, Full, NoMemory}
 use Rattle.pc_lower.specs.Annotation.{rows_at, is_head, AreFew, NoHeads}
 use Rattle.pc_lower.specs.Need.{leaving, needed_at, at_heads, filled, filled_below, need}
-use Rattle.pc_lower.specs.Operations.{Operation, Fits, Answers, edges_operations, point_operations, operations_below, operations}
+use Rattle.pc_lower.specs.Operations.{Operation, Fits, Answers, edges_operations, operations_below, operations}
 use Rattle.pc_lower.specs.Laws.{IsNotRefused}
 use Rattle.pc_lower.specs.Tame.{IsTame}
 use Rattle.pc_lower.proofs.Agreeing.{agree_leaving, operations_alike}

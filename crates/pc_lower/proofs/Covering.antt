@@ -1,6 +1,6 @@
 -- What an edge owes is covered by the rows of its point and of its test.
-use Rattle.std.proofs.Common.{◌≡◌, ◌∙◌, List, [], ◌∷◌, ◌++◌, sym, refl, ap, subst, cond, Bool, true, false, arith, inl, inr, ℤ, ◌≤ℤ◌, append-nil}
-use Rattle.std.specs.Prelude.{◌⊎◌, not}
+use Rattle.std.proofs.Common.{◌≡◌, List, [], ◌∷◌, ◌++◌, sym, refl, subst, cond, Bool, true, false, arith, inl, inr, ℤ, ◌≤ℤ◌}
+use Rattle.std.specs.Prelude.{not}
 use Rattle.std.specs.List.{AllByRecursion as Each}
 use Rattle.std.proofs.lemmas.Int.{ints}
 use Rattle.pc_rows.specs.Linear.{Linear}
@@ -15,7 +15,7 @@ use Rattle.pc_graph.specs.Lists.{In}
 use Rattle.pc_graph.proofs.Lists.{each_more}
 use Rattle.pc_lower.specs.Annotation.{rows_at}
 use Rattle.pc_lower.specs.Need.{uncovered, asked, leaving, gathered, need}
-use Rattle.pc_lower.specs.Laws.{IsCovered, AnnotationCovers}
+use Rattle.pc_lower.specs.Laws.{AnnotationCovers}
 use Rattle.pc_lower.proofs.Agreeing.{in_leaving}
 use Rattle.pc_lower.proofs.Meaning.{need_is}
 

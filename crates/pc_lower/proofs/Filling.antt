@@ -1,15 +1,14 @@
 -- Points are filled from the greatest down: what a point has then is what it needs.
-use Rattle.std.proofs.Common.{◌≡◌, ◌∙◌, ℕ, zero, suc, ◌+◌, ◌<◌, ◌≤◌, ◌≢◌, ◌==◌, List, [], ◌∷◌, length, set, get_or, sym, refl, ap, subst, cond, Bool, true, false, arith, inl, inr, length-set}
+use Rattle.std.proofs.Common.{◌≡◌, ◌∙◌, ℕ, zero, suc, ◌<◌, ◌≤◌, ◌≢◌, List, [], length, set, sym, refl, ap, subst, cond, Bool, true, false, arith, inl, inr, length-set}
 use Rattle.std.specs.Prelude.{◌⊎◌}
 use Rattle.std.specs.List.{AllByRecursion as Each}
 use Rattle.std.proofs.lemmas.List.{get_or-set_same, get_or-set_other}
 use Rattle.pc_rows.specs.Linear.{Linear}
 use Rattle.pc_graph.specs.declared.point.PointInfo.{PointInfo}
-use Rattle.pc_graph.specs.Arc.{Arc}
 use Rattle.pc_graph.specs.Flow.{Flow}
 use Rattle.pc_graph.specs.Shape.{LeadsUp}
 use Rattle.pc_lower.specs.Annotation.{rows_at, is_head}
-use Rattle.pc_lower.specs.Need.{leaving, gathered, needed_at, filled, filled_below}
+use Rattle.pc_lower.specs.Need.{leaving, needed_at, filled, filled_below}
 use Rattle.pc_lower.proofs.Agreeing.{AgreeAbove, agree_leaving, gathered_alike}
 
 abbrev Rows : Type 0

@@ -1,5 +1,5 @@
 -- The need is the one annotation that is meant.
-use Rattle.std.proofs.Common.{◌≡◌, ◌∙◌, ℕ, zero, suc, ◌+◌, ◌<◌, ◌≤◌, List, [], ◌∷◌, length, sym, refl, ap, subst, cond, Bool, true, false, arith, inl, inr}
+use Rattle.std.proofs.Common.{◌≡◌, ◌∙◌, ℕ, zero, suc, ◌+◌, ◌<◌, ◌≤◌, List, [], ◌∷◌, length, sym, refl, ap, cond, Bool, true, false, arith, inl, inr}
 use Rattle.std.specs.Prelude.{◌⊎◌}
 use Rattle.std.specs.List.{AllByRecursion as Each}
 use Rattle.std.proofs.lemmas.List.{get_or_past, ext_get_or}
@@ -7,11 +7,11 @@ use Rattle.pc_rows.specs.Linear.{Linear}
 use Rattle.pc_graph.specs.declared.point.PointInfo.{PointInfo}
 use Rattle.pc_graph.specs.Arc.{Arc}
 use Rattle.pc_graph.specs.Flow.{Flow}
-use Rattle.pc_graph.specs.Shape.{LeadsUp, IsGraph}
+use Rattle.pc_graph.specs.Shape.{LeadsUp}
 use Rattle.pc_lower.specs.Annotation.{rows_at, is_head, NoHeads}
 use Rattle.pc_lower.specs.Need.{leaving, gathered, needed_at, at_heads, filled_below, need, IsNeed}
 use Rattle.pc_lower.specs.Laws.{NeedIsMeant, NeedIsFree}
-use Rattle.pc_lower.proofs.Agreeing.{AgreeAbove, agree_leaving, gathered_alike, each_leaving}
+use Rattle.pc_lower.proofs.Agreeing.{agree_leaving, gathered_alike, each_leaving}
 use Rattle.pc_lower.proofs.Filling.{below_long, below_heads, below_needed}
 
 abbrev Rows : Type 0

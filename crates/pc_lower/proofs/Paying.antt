@@ -1,9 +1,9 @@
 -- Without loops the need pays every edge, and each of its rows is owed.
-use Rattle.std.proofs.Common.{◌≡◌, ◌∙◌, ℕ, suc, zero, ◌<◌, List, [], ◌∷◌, ◌++◌, length, sym, refl, ap, subst, cond, Bool, true, false, arith, inl, inr, ℤ, pos, ◌+ℤ◌, ◌≤ℤ◌, append-nil}
+use Rattle.std.proofs.Common.{◌≡◌, ℕ, suc, zero, List, [], ◌∷◌, ◌++◌, length, sym, refl, subst, cond, Bool, true, false, arith, inl, inr, ℤ, pos, ◌≤ℤ◌}
 use Rattle.std.specs.Prelude.{◌⊎◌, not, filter}
 use Rattle.std.specs.List.{AllByRecursion as Each}
 use Rattle.std.proofs.lemmas.Int.{ints}
-use Rattle.pc_rows.specs.Linear.{Linear, Meets, MeetsAll, value, zero_from}
+use Rattle.pc_rows.specs.Linear.{Linear, Meets, MeetsAll}
 use Rattle.pc_rows.specs.Joins.{is_covered, with_row, joined}
 use Rattle.pc_rows.proofs.Carrying.{substitution_is_exact}
 use Rattle.pc_rows.proofs.First.{value_of_first}
@@ -21,8 +21,8 @@ use Rattle.pc_graph.specs.Shape.{WhatIsOver, LeadsUp}
 use Rattle.pc_graph.specs.Walk.{Pass}
 use Rattle.pc_graph.proofs.Lists.{each_at, each_in, in_either}
 use Rattle.pc_lower.specs.Annotation.{rows_at, is_head, NoHeads}
-use Rattle.pc_lower.specs.Need.{uncovered, asked, leaving, gathered, need}
-use Rattle.pc_lower.specs.Laws.{IsCovered, NeedIsPaid, NeedIsOwed}
+use Rattle.pc_lower.specs.Need.{asked, leaving, gathered, need}
+use Rattle.pc_lower.specs.Laws.{NeedIsPaid, NeedIsOwed}
 use Rattle.pc_lower.proofs.Agreeing.{each_leaving}
 use Rattle.pc_lower.proofs.Covering.{annotation_covers}
 use Rattle.pc_lower.proofs.Meaning.{need_is}

@@ -1,5 +1,5 @@
 -- With tame numbers no operation of a need without loops leaves the range or has a row too many.
-use Rattle.std.proofs.Common.{◌≡◌, ◌∙◌, ℕ, suc, zero, ◌+◌, ◌*◌, ◌^◌, ◌<◌, ◌≤◌, List, [], ◌∷◌, ◌++◌, length, sym, refl, ap, subst, cond, Bool, true, false, arith, lit<}
+use Rattle.std.proofs.Common.{◌≡◌, ℕ, suc, zero, ◌+◌, ◌*◌, ◌^◌, ◌<◌, ◌≤◌, List, [], ◌∷◌, ◌++◌, length, sym, subst, cond, Bool, arith, lit<}
 use Rattle.std.specs.List.{AllByRecursion as Each}
 use Rattle.pc_rows.specs.Linear.{Linear}
 use Rattle.pc_rows.specs.Bounds.{AllWithin}
@@ -14,7 +14,7 @@ use Rattle.pc_graph.specs.Arc.{Arc}
 use Rattle.pc_graph.specs.Exact.{Annotation}
 use Rattle.pc_graph.specs.Flow.{Flow}
 use Rattle.pc_graph.specs.Shape.{IsGraph}
-use Rattle.pc_lower.specs.Annotation.{rows_at, is_head, NoHeads, no_rows}
+use Rattle.pc_lower.specs.Annotation.{rows_at, NoHeads, no_rows}
 use Rattle.pc_lower.specs.Need.{asked, leaving, gathered, need}
 use Rattle.pc_lower.specs.Operations.{Fits, carries, edges_operations, operations_below, point_operations}
 use Rattle.pc_lower.specs.Tame.{tame_bound, HasTameNumbers, AreTame, IsTame}

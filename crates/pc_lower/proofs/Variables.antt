@@ -1,5 +1,5 @@
 -- Which variables the rows of a need have.
-use Rattle.std.proofs.Common.{◌≡◌, ◌∙◌, ℕ, suc, zero, ◌<◌, ◌≤◌, List, [], ◌∷◌, ◌++◌, length, set, sym, refl, ap, subst, cond, Bool, true, false, Some, arith}
+use Rattle.std.proofs.Common.{◌≡◌, ℕ, suc, zero, ◌≤◌, List, [], ◌∷◌, length, set, sym, refl, subst, cond, Bool, true, false, arith}
 use Rattle.std.specs.Prelude.{not, filter, slice_get, IfSome}
 use Rattle.std.specs.List.{AllByRecursion as Each}
 use Rattle.pc_rows.specs.Linear.{Linear, IsOver, first_of}
@@ -15,10 +15,9 @@ use Rattle.pc_graph.specs.Carry.{back_all, owes}
 use Rattle.pc_graph.specs.Exact.{Annotation}
 use Rattle.pc_graph.specs.Flow.{Flow}
 use Rattle.pc_graph.specs.Shape.{WhatIsOver, LeadsUp, IsGraph}
-use Rattle.pc_graph.proofs.Lists.{each_more}
 use Rattle.pc_lower.specs.Annotation.{rows_at, AreOver, is_head}
 use Rattle.pc_lower.specs.Need.{asked, leaving, gathered, needed_at, at_heads, filled, filled_below, need}
-use Rattle.pc_lower.specs.Laws.{IsComplete, NeedIsComplete}
+use Rattle.pc_lower.specs.Laws.{NeedIsComplete}
 use Rattle.pc_lower.proofs.Agreeing.{each_leaving}
 use Rattle.pc_lower.proofs.Covering.{annotation_covers}
 use Rattle.pc_lower.proofs.Meaning.{need_is, need_long}

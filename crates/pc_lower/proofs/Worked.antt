@@ -1,5 +1,5 @@
 -- Needs at worked graphs: x is variable 0 and y variable 1.
-use Rattle.std.proofs.Common.{◌≡◌, ℕ, ℤ, pos, negsuc, List, [], ◌∷◌, ◌++◌, Bool, true, false, map, refl}
+use Rattle.std.proofs.Common.{◌≡◌, ℤ, pos, negsuc, List, [], ◌∷◌, Bool, true, false, map, refl}
 use Rattle.pc_grammar.specs.declared.tree.Bound.TheVariants.{At}
 use Rattle.pc_rows.specs.Linear.{Linear}
 use Rattle.pc_graph.specs.declared.point.PointInfo.{PointInfo}
@@ -28,7 +28,7 @@ asserted = row (pos 5) (pos 1) (pos 0)
 abbrev branches : Flow
 branches =
     flow (false ∷ false ∷ false ∷ false ∷ false ∷ false ∷ [])
-      (arc 0 1 (Enter 1) ∷ arc 1 2 (Test (at_least_zero ∷ [])) ∷ arc 2 3 (Check (asserted ∷ [])) ∷ arc 1 4 (Test (row (negsuc 0) (negsuc 0) (pos 0) ∷ [])) ∷ arc 3 5 (Test []) ∷ arc 4 5 (Test []) ∷ [])
+    (arc 0 1 (Enter 1) ∷ arc 1 2 (Test (at_least_zero ∷ [])) ∷ arc 2 3 (Check (asserted ∷ [])) ∷ arc 1 4 (Test (row (negsuc 0) (negsuc 0) (pos 0) ∷ [])) ∷ arc 3 5 (Test []) ∷ arc 4 5 (Test []) ∷ [])
 
 covered_by_the_test : need branches [] ≡ [] ∷ [] ∷ (asserted ∷ []) ∷ [] ∷ [] ∷ [] ∷ []
 covered_by_the_test = refl
@@ -42,8 +42,8 @@ in_order = refl
 abbrev ways : Flow
 ways =
     flow (false ∷ false ∷ false ∷ false ∷ false ∷ false ∷ [])
-      (arc 0 1 (Enter 1) ∷ arc 1 2 (Test []) ∷ arc 2 4 (Set 0 (row (pos 1) (pos 1) (pos 0)) (At (pos 0)) (At (pos 0))) ∷ arc 1 3 (Test []) ∷
-        arc 3 4 (Set 0 (row (negsuc 0) (pos 1) (pos 0)) (At (pos 0)) (At (pos 0))) ∷ arc 4 5 (Check (at_least_zero ∷ [])) ∷ [])
+    (arc 0 1 (Enter 1) ∷ arc 1 2 (Test []) ∷ arc 2 4 (Set 0 (row (pos 1) (pos 1) (pos 0)) (At (pos 0)) (At (pos 0))) ∷ arc 1 3 (Test []) ∷
+    arc 3 4 (Set 0 (row (negsuc 0) (pos 1) (pos 0)) (At (pos 0)) (At (pos 0))) ∷ arc 4 5 (Check (at_least_zero ∷ [])) ∷ [])
 
 asked_by_both : need ways [] ≡
     (row (pos 1) (pos 1) (pos 0) ∷ row (negsuc 0) (pos 1) (pos 0) ∷ []) ∷ (row (pos 1) (pos 1) (pos 0) ∷ row (negsuc 0) (pos 1) (pos 0) ∷ []) ∷
@@ -54,9 +54,9 @@ asked_by_both = refl
 abbrev turning : Flow
 turning =
     flow (false ∷ false ∷ true ∷ false ∷ false ∷ false ∷ false ∷ false ∷ [])
-      (arc 0 1 (Enter 1) ∷ arc 1 2 (Set 1 (row (pos 1) (pos 0) (pos 0)) (At (pos 0)) (At (pos 0))) ∷ arc 2 3 (Test (row (pos 100) (pos 0) (negsuc 0) ∷ [])) ∷
-        arc 3 4 (Set 1 (row (pos 1) (pos 0) (pos 1)) (At (pos 0)) (At (pos 0))) ∷ arc 4 5 (Set 0 (row (pos 0) (pos 1) (pos 0)) (At (pos 0)) (At (pos 1))) ∷
-        arc 5 6 (Check (row (pos 105) (negsuc 0) (pos 0) ∷ [])) ∷ arc 6 2 (Test []) ∷ arc 2 7 (Test (row (negsuc 100) (pos 0) (pos 1) ∷ [])) ∷ [])
+    (arc 0 1 (Enter 1) ∷ arc 1 2 (Set 1 (row (pos 1) (pos 0) (pos 0)) (At (pos 0)) (At (pos 0))) ∷ arc 2 3 (Test (row (pos 100) (pos 0) (negsuc 0) ∷ [])) ∷
+    arc 3 4 (Set 1 (row (pos 1) (pos 0) (pos 1)) (At (pos 0)) (At (pos 0))) ∷ arc 4 5 (Set 0 (row (pos 0) (pos 1) (pos 0)) (At (pos 0)) (At (pos 1))) ∷
+    arc 5 6 (Check (row (pos 105) (negsuc 0) (pos 0) ∷ [])) ∷ arc 6 2 (Test []) ∷ arc 2 7 (Test (row (negsuc 100) (pos 0) (pos 1) ∷ [])) ∷ [])
 
 abbrev head : Linear
 head = row (pos 4) (negsuc 0) (pos 1)

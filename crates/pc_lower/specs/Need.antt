@@ -1,5 +1,5 @@
 -- The need: the rows that each point has to meet so that every edge from it is paid, where the rows of the heads are given.
-use Rattle.std.specs.Prelude.{◌≡◌, ◌==◌, ℕ, zero, suc, Bool, false, true, not, if◌then◌else◌, List, [], ◌∷◌, length, filter, slice_set}
+use Rattle.std.specs.Prelude.{◌≡◌, ◌==◌, ℕ, zero, suc, false, true, not, if◌then◌else◌, List, [], ◌∷◌, length, filter, slice_set}
 use Rattle.pc_rows.specs.Linear.{Linear}
 use Rattle.pc_rows.specs.Joins.{is_covered, joined}
 use Rattle.pc_graph.specs.declared.point.PointInfo.{PointInfo}

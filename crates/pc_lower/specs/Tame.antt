@@ -1,5 +1,5 @@
 -- Graphs whose numbers stay small on the way back.
-use Rattle.std.specs.Prelude.{◌≡◌, ◌≤◌, ◌^◌, ℕ, List, length}
+use Rattle.std.specs.Prelude.{◌≤◌, ◌^◌, ℕ, List, length}
 use Rattle.std.specs.List.{AllByRecursion as Each}
 use Rattle.pc_syntax.specs.Machine.{end_of}
 use Rattle.pc_rows.specs.Linear.{Linear}

@@ -1,4 +1,4 @@
-use Rattle.std.proofs.Common.{◌≡◌, rules, ◌++◌, ◌∷◌, [], ◌<◌, length, arith}
+use Rattle.std.proofs.Common.{◌≡◌, rules, ◌++◌, ◌∷◌, [], arith}
 use Rattle.pc_lower.proofs.Annotations.{heads_next}
 use Rattle.pc_lower.proofs.annotation.at_heads.Goals as goal
 

@@ -1,7 +1,7 @@
-use Rattle.std.proofs.Common.{◌≡◌, ◌∙◌, ℕ, suc, ◌-◌, ◌<◌, length, subst, sym, arith, true, false}
+use Rattle.std.proofs.Common.{◌≡◌, ◌∙◌, ℕ, suc, ◌-◌, subst, sym, arith}
 use Rattle.std.proofs.lemmas.Result.{err_from_is_err_and}
-use Rattle.pc_lower.specs.Annotation.{rows_at, is_head}
-use Rattle.pc_lower.specs.Need.{need, needed_at}
+use Rattle.pc_lower.specs.Annotation.{rows_at}
+use Rattle.pc_lower.specs.Need.{needed_at}
 use Rattle.pc_lower.specs.Laws.{IsComplete}
 use Rattle.pc_lower.proofs.Annotations.{head_told}
 use Rattle.pc_lower.proofs.Completing.{Completes, completes_none, completes_head, completes_next, completes_refused, completes_all, tame_not_refused}
