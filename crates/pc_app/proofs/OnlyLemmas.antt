@@ -1,5 +1,5 @@
 -- Words have one status, where the files that they name are told.
-use Rattle.std.proofs.Common.{◌≡◌, ◌≢◌, ◌∙◌, ap, sym, Ok, Err, Some, None, Option, Result, subst, ℕ, ℤ, ◌<◌, ◌≤◌, List, ◌∷◌, length, arith, false, refl}
+use Rattle.std.proofs.Common.{◌≡◌, ◌≢◌, ◌∙◌, ap, sym, Ok, Err, Some, None, Option, Result, subst, ℕ, ℤ, ◌<◌, ◌≤◌, List, ◌∷◌, length, arith, false, refl, ◌⊎◌, inl, inr}
 use Rattle.pc_ports.specs.Outside.{Holding, Untold, Nothing, Held}
 use Rattle.pc_text.specs.Bytes.{Bytes}
 use Rattle.pc_text.specs.Named.{Named}
@@ -55,6 +55,9 @@ graph_of c =
 text_has_no_fault : (b : Bytes) (c : Certificate) (f : CertFault) → IsTextOf b c → fault_of b ≡ Some f → ⊥
 text_has_no_fault b c f is faulty = ?
 
+same_certificate : (b : Bytes) (c d : Certificate) → IsTextOf b c → IsTextOf b d → c ≡ d
+same_certificate b c d p q = ?
+
 same_bytes : (held : Holding) (a b : Bytes) → held ≢ Untold → MayHold held a → MayHold held b → a ≡ b
 same_bytes Untold a b told p q = absurd (told refl)
 same_bytes Nothing a b told p q = absurd p
@@ -99,7 +102,7 @@ module _ (s : ℕ) (t : Bytes) (s' : ℕ) (t' : Bytes) where
   certificate_once A B one bytes (IsNoCertificate f faulty e u) (IsCertificate d is y) = absurd (text_has_no_fault bytes d f is faulty)
   certificate_once A B one bytes (IsCertificate c is x) (IsNoCertificate f faulty e u) = absurd (text_has_no_fault bytes c f is faulty)
   certificate_once A B one bytes (IsCertificate c is x) (IsCertificate d is' y) =
-      let same = text_determines_certificate bytes d c is' is in
+      let same = same_certificate bytes d c is' is in
       one c x (subst (λ (z : Certificate). B z s' t') same y)
 
   analysis_once : (A : Program → ℕ → Bytes → Type 0) → ((p : Program) (status : ℕ) (text : Bytes) → A p status text → status ≡ DONE) → (p q : Program) → content_of p ≡ content_of q →

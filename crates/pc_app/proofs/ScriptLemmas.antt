@@ -1,8 +1,12 @@
--- What the reading of a script tells.
-use Rattle.std.proofs.Common.{◌≡◌, ◌≢◌, ◌∙◌, ap, sym, ℕ, ℤ, List, [], ◌∷◌, length, Bool, true, false, cond, Result, Ok, Err, refl, arith}
+-- What the reading of a script, or of a certificate, tells.
+use Rattle.std.proofs.Common.{◌≡◌, ◌≢◌, ◌∙◌, ap, sym, ℕ, ℤ, List, [], ◌∷◌, length, Bool, true, false, cond, Result, Ok, Err, Some, refl, arith}
 use Rattle.std.specs.Prelude.{◌==◌}
 use Rattle.std.proofs.lemmas.Bool.Decides.{nat_tests}
 use Rattle.pc_text.specs.Bytes.{Bytes}
+use Rattle.pc_cert.specs.Answers.{Means}
+use Rattle.pc_cert.specs.Faults.{fault_of}
+use Rattle.pc_cert.specs.declared.fault.CertFault.{CertFault}
+use Rattle.pc_cert.specs.declared.fault.CertFault.TheVariants as certificate
 use Rattle.pc_runner.specs.Answers.{Reads}
 use Rattle.pc_runner.specs.Scripts.{Choosing, script_of, script_by, entry_of, entry_by, as_many, values_in, choices_of, on_ok, lines}
 use Rattle.pc_runner.specs.Words.{words}
@@ -53,3 +57,9 @@ by_lines params c (first ∷ next ∷ more) e = by_entry params c (words first) 
 pub as_many_values : (params : ℕ) (bytes : Bytes) (c : Choosing) → script_of params bytes ≡ Ok c → length c.entry ≡ params
 unfolding script_of
 as_many_values params bytes c e = by_lines params c (lines bytes) e
+
+pub no_certificate : (bytes : Bytes) (f : CertFault) → f ≢ certificate.NoMemory → Means bytes (Err f) → fault_of bytes ≡ Some f
+no_certificate bytes (certificate.Form n) some h = h
+no_certificate bytes (certificate.Number n) some h = h
+no_certificate bytes (certificate.Trailing n) some h = h
+no_certificate bytes certificate.NoMemory some h = absurd (some refl)

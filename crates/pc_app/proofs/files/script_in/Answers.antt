@@ -6,7 +6,7 @@ use Rattle.pc_app.specs.Reading.{Nobody}
 use Rattle.pc_app.specs.Silences.{IsLost}
 use Rattle.pc_app.specs.Answers.{ScriptAnswers}
 use Rattle.pc_app.specs.Answers.FileAnswers.{IsShort}
-use Rattle.pc_app.specs.Answers.ScriptAnswers.{IsMalformed}
+use Rattle.pc_app.specs.Answers.ScriptAnswers.{IsNoScript}
 use Rattle.pc_app.proofs.OrderLemmas.{file_stops}
 use Rattle.pc_app.proofs.ScriptLemmas.{faulty_means}
 use Rattle.pc_app.proofs.files.script_in.Goals as goal
@@ -20,4 +20,4 @@ returns-in_err-bytes-clause-answered g c =
 pub returns : goal.returns
 returns g c =
     let has = c.in_ok-bytes.ensures.bytes in
-    record { answered = IsShort c.in_ok-bytes.bytes.items has.holds has.short (IsMalformed c.in-Err.fault (rw c.as_slice.ensures.value at (faulty_means _ _ c.in-Err.fault (search rules) c.in-Err.ensures)) refl c.in_ok-malformed-in-Err.ensures); counted = c.bytes_in.ensures.counted; kept = c.bytes_in.ensures.kept }
+    record { answered = IsShort c.in_ok-bytes.bytes.items has.holds has.short (IsNoScript c.in-Err.fault (rw c.as_slice.ensures.value at (faulty_means _ _ c.in-Err.fault (search rules) c.in-Err.ensures)) refl c.in_ok-malformed_script-in-Err.ensures); counted = c.bytes_in.ensures.counted; kept = c.bytes_in.ensures.kept }
