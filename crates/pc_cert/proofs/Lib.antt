@@ -11,6 +11,9 @@ pub mod Shown
 pub mod PlainWords
 pub mod Spelled
 pub mod RowSpelling
+pub mod ProofSpelling
+pub mod HeadSpelling
+pub mod LineReading
 pub mod Told
 pub mod Splits
 pub mod Decimals

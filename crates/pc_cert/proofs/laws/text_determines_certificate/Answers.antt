@@ -1,4 +1,7 @@
+use Rattle.pc_cert.proofs.LineReading.{line_reads}
 use Rattle.pc_cert.proofs.RowSpelling.{row_spelled}
+use Rattle.pc_cert.proofs.HeadSpelling.{point_spelled}
+use Rattle.pc_cert.proofs.ProofSpelling.{proof_spelled}
 use Rattle.pc_cert.proofs.laws.text_determines_certificate.Goals as goal
 
 pub returns : goal.returns
