@@ -14,6 +14,7 @@ pub mod RowSpelling
 pub mod ProofSpelling
 pub mod HeadSpelling
 pub mod LineReading
+pub mod ListReading
 pub mod Told
 pub mod Splits
 pub mod Decimals

@@ -25,7 +25,7 @@ pub record ReadsLines {A : Type 0} (r : Reader A) (lines : A → List Words) (go
 
 -- ---- the next line
 
-ok_same : {B : Type 0} (x y : B) → ◌≡◌ {A = Result B CertFault} (Ok x) (Ok y) → x ≡ y
+pub ok_same : {B : Type 0} (x y : B) → ◌≡◌ {A = Result B CertFault} (Ok x) (Ok y) → x ≡ y
 ok_same x y e = cc
 
 abbrev pub give : {A : Type 0} → Unread → A → Result (A × Unread) CertFault
