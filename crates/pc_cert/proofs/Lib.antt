@@ -15,6 +15,7 @@ pub mod ProofSpelling
 pub mod HeadSpelling
 pub mod LineReading
 pub mod ListReading
+pub mod AlternativeReading
 pub mod Told
 pub mod Splits
 pub mod Decimals
