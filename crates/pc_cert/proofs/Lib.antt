@@ -16,6 +16,7 @@ pub mod HeadSpelling
 pub mod LineReading
 pub mod ListReading
 pub mod AlternativeReading
+pub mod CertificateReading
 pub mod Told
 pub mod Splits
 pub mod Decimals
