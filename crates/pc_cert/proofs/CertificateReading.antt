@@ -126,23 +126,3 @@ module _ (z : Sizes) (most : z.variables ≤ VARIABLES) where
 
   pub alternatives_read : ReadsLines (alternatives_reader z 0 ALTERNATIVES) (alternatives_lines z.variables) (AreFew (IsWhole z) ALTERNATIVES)
   alternatives_read = record { sound = λ s left all e. alternatives_sound ALTERNATIVES 0 refl s left all e; complete = alternatives_complete ALTERNATIVES 0 refl }
-
--- ---- certificates
-
-sizes_in : Certificate → Sizes
-sizes_in c = record { points = c.points; edges = c.edges; variables = c.variables }
-
-certificate_with : Sizes → List Annotated → Certificate
-certificate_with z all = record { points = z.points; edges = z.edges; variables = z.variables; alternatives = all }
-
--- what every certificate that is read keeps
-pub record IsRead (z : Sizes) (all : List Annotated) : Type 0 where
-  pub sizes : AreWithin z
-  pub alternatives : AreFew (IsWhole z) ALTERNATIVES all
-
-nothing : (lines : List Bytes) (tail : Bytes) → (is_empty lines && is_empty tail) ≡ true → (lines ≡ []) × (tail ≡ [])
-nothing lines tail h = let both = and_is (is_empty lines) (is_empty tail) h in (empty_is lines both.0, empty_is tail both.1)
-
-whole_by : (over : Bool) (c d : Certificate) (n : ℕ) → cond over (Ok c) (Err (fault.Trailing n)) ≡ Ok d → (over ≡ true) × (c ≡ d)
-whole_by true c d n e = (refl, ok_same c d e)
-whole_by false c d n e = absurd (cc)

@@ -17,6 +17,7 @@ pub mod LineReading
 pub mod ListReading
 pub mod AlternativeReading
 pub mod CertificateReading
+pub mod WholeReading
 pub mod Told
 pub mod Splits
 pub mod Decimals
