@@ -117,10 +117,10 @@ next_by n ws false e h k = (λ f. ltb-true n ALTERNATIVES k, sym (word_is (codes
     or_false true h = refl
     or_false false h = h
 
-alternative_plain : IsPlain (codes "alternative")
+pub alternative_plain : IsPlain (codes "alternative")
 alternative_plain = (omega arith, (omega arith, (omega arith, (omega arith, (omega arith, (omega arith, (omega arith, (omega arith, (omega arith, (omega arith, (omega arith, tt)))))))))))
 
-end_plain : IsPlain (codes "end")
+pub end_plain : IsPlain (codes "end")
 end_plain = (omega arith, (omega arith, (omega arith, tt)))
 
 next_plain : (more : Bool) → ArePlain (next_line more)

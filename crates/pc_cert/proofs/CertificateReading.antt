@@ -24,14 +24,14 @@ use Rattle.pc_cert.proofs.AlternativeReading.{IsWhole, annotated_reads, next_lin
 
 -- ---- alternatives, and the end
 
-read_one : Sizes → ℕ → ℕ → Bool × Unread → Result (List Annotated × Unread) CertFault
+unfoldable pub read_one : Sizes → ℕ → ℕ → Bool × Unread → Result (List Annotated × Unread) CertFault
 read_one z n k more = cond more.0 (annotated_reader z more.1 >>= (λ a. alternatives_reader z (n + 1) k a.1 >>= (λ others. give others.1 (a.0 ∷ others.0)))) (give more.1 [])
 
-none_is : (z : Sizes) (n : ℕ) (s : Unread) → alternatives_reader z n zero s ≡ (begins z n s >>= (λ more. give more.1 []))
+pub none_is : (z : Sizes) (n : ℕ) (s : Unread) → alternatives_reader z n zero s ≡ (begins z n s >>= (λ more. give more.1 []))
 unfolding alternatives_reader
 none_is z n s = refl
 
-one_is : (z : Sizes) (n k : ℕ) (s : Unread) → alternatives_reader z n (suc k) s ≡ (begins z n s >>= read_one z n k)
+pub one_is : (z : Sizes) (n k : ℕ) (s : Unread) → alternatives_reader z n (suc k) s ≡ (begins z n s >>= read_one z n k)
 unfolding alternatives_reader read_one
 one_is z n k s = refl
 

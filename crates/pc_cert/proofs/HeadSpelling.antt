@@ -36,7 +36,7 @@ counts_back (suc n) (w ∷ ws) h =
     let rest = more.0 in
     (cc, omega (arith, more.1))
 
-counts_plain : (ns : List ℕ) → AllByRecursion IsPlain (map (λ k. numeral (pos k)) ns)
+pub counts_plain : (ns : List ℕ) → AllByRecursion IsPlain (map (λ k. numeral (pos k)) ns)
 counts_plain [] = tt
 counts_plain (n ∷ ns) = (numeral_plain (pos n), counts_plain ns)
 
@@ -97,10 +97,10 @@ point_name = codes "point"
 abbrev edge_name : Bytes
 edge_name = codes "edge"
 
-point_plain : IsPlain point_name
+pub point_plain : IsPlain point_name
 point_plain = (omega arith, (omega arith, (omega arith, (omega arith, (omega arith, tt)))))
 
-edge_plain : IsPlain edge_name
+pub edge_plain : IsPlain edge_name
 edge_plain = (omega arith, (omega arith, (omega arith, (omega arith, tt))))
 
 pub point_spelled : (v p : ℕ) → IsSpelled (Point v p) (number_at 2) (λ k. counts (codes "point") (p ∷ k ∷ [])) (λ k. k ≤ ROWS)
@@ -126,13 +126,13 @@ edge_spelled e = record {
 name_plain : (w : Bytes) → IsPlain w → ArePlain (w ∷ [])
 name_plain w h = ((h, tt), refl)
 
-precond_plain : IsPlain (codes "precond")
+pub precond_plain : IsPlain (codes "precond")
 precond_plain = (omega arith, (omega arith, (omega arith, (omega arith, (omega arith, (omega arith, (omega arith, tt)))))))
 
-one_plain : IsPlain (codes "1")
+pub one_plain : IsPlain (codes "1")
 one_plain = (omega arith, tt)
 
-graph_plain : IsPlain (codes "graph")
+pub graph_plain : IsPlain (codes "graph")
 graph_plain = (omega arith, (omega arith, (omega arith, (omega arith, (omega arith, tt)))))
 
 version_back : (ws : Words) → is_named (codes "precond") (is_word (codes "1")) ws ≡ true → version_line ≡ ws

@@ -18,6 +18,10 @@ pub mod ListReading
 pub mod AlternativeReading
 pub mod CertificateReading
 pub mod WholeReading
+pub mod FaultReading
+pub mod CertificateFaults
+pub mod PlainLines
+pub mod Meaning
 pub mod Told
 pub mod Splits
 pub mod Decimals

@@ -139,6 +139,10 @@ parts_plain (p ∷ ps) = (numeral_plain (pos p.index), (numeral_plain p.multipli
 
 -- ---- proofs
 
+pub proof_plain : (p : Proof) → AllByRecursion IsPlain (proof_line p)
+unfolding part_line
+proof_plain p = (numeral_plain p.goal, parts_plain p.parts)
+
 proof_with : ℤ → List Part → Proof
 proof_with z ps = record { goal = z; parts = ps }
 
@@ -166,7 +170,7 @@ pub proof_spelled : IsSpelled ProofLine proof_value proof_line IsProof
 unfolding part_line
 proof_spelled = record {
   back = back;
-  plain = λ p h. ((numeral_plain p.goal, parts_plain p.parts), refl);
+  plain = λ p h. (proof_plain p, refl);
   form = λ p h. rw (integer_is_numeral p.goal) (pairs_of p.parts);
   rules = forth_rules;
   forth = λ p h. forth_value p;
