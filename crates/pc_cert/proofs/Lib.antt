@@ -11,6 +11,17 @@ pub mod Shown
 pub mod PlainWords
 pub mod Spelled
 pub mod RowSpelling
+pub mod ProofSpelling
+pub mod HeadSpelling
+pub mod LineReading
+pub mod ListReading
+pub mod AlternativeReading
+pub mod CertificateReading
+pub mod WholeReading
+pub mod FaultReading
+pub mod CertificateFaults
+pub mod PlainLines
+pub mod Meaning
 pub mod Told
 pub mod Splits
 pub mod Decimals

@@ -19,7 +19,7 @@ use Rattle.pc_cert.specs.LineReaders.{broken, next_part, parts_from}
 use Rattle.pc_cert.proofs.Numerals.{and_is}
 use Rattle.pc_cert.proofs.LineSteps.{part}
 
-not_zero : (z : ℤ) → not (is_zero z) ≡ true → z ≢ pos 0
+pub not_zero : (z : ℤ) → not (is_zero z) ≡ true → z ≢ pos 0
 not_zero (pos n) h e = let zero : is_zero (pos n) ≡ true = ap is_zero e in cc
 not_zero (negsuc n) h e = cc
 

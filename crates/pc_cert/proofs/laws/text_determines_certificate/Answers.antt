@@ -1,5 +1,5 @@
-use Rattle.pc_cert.proofs.RowSpelling.{row_spelled}
+use Rattle.pc_cert.proofs.Meaning.{text_determines_certificate as proved}
 use Rattle.pc_cert.proofs.laws.text_determines_certificate.Goals as goal
 
 pub returns : goal.returns
-returns c = ?
+returns c = proved

@@ -1,0 +1,152 @@
+-- The readers of alternatives read their lines.
+use Rattle.std.proofs.Common.{◌≡◌, ◌∙◌, refl, ap, sym, subst, ℕ, zero, suc, ◌+◌, ◌<◌, ◌≤◌, ltb, Bool, true, false, cond, not, List, [], ◌∷◌, ◌++◌, length, map, append_assoc, Result, Ok, Err, arith}
+use Rattle.std.specs.Prelude.{◌||◌, codes}
+use Rattle.std.specs.List.{AllByRecursion, flat_map}
+use Rattle.std.proofs.lemmas.Bool.{lt-ltb}
+use borrow.Author.Tests.{ltb-true}
+use Rattle.pc_rows.specs.declared.row.TheConstants.{VARIABLES}
+use Rattle.pc_rows.specs.declared.rows.TheConstants.{ROWS}
+use Rattle.pc_rows.specs.declared.system.TheConstants.{PREMISES}
+use Rattle.pc_rows.specs.Linear.{Linear}
+use Rattle.pc_rows.specs.Evidence.{Proof, IsProof}
+use Rattle.pc_text.specs.Bytes.{Bytes}
+use Rattle.pc_cert.specs.declared.certificate.Annotated.{Annotated}
+use Rattle.pc_cert.specs.declared.certificate.Sizes.{Sizes}
+use Rattle.pc_cert.specs.declared.certificate.TheConstants.{ALTERNATIVES}
+use Rattle.pc_cert.specs.declared.fault.CertFault.{CertFault}
+use Rattle.pc_cert.specs.Words.{Words, is_word, number_at}
+use Rattle.pc_cert.specs.Faults.{Row, Point, Edge, Next, Proof as ProofLine}
+use Rattle.pc_cert.specs.Readers.{◌>>=◌, Unread, Reader, repeated, row_value, proof_value, row_reader, point_reader, proof_reader, edge_reader, annotated_reader, goes_on, begins, alternatives_reader}
+use Rattle.pc_cert.specs.CertificateTexts.{counts, row_line, proof_line, point_lines, edge_lines, numbered, alternative_lines}
+use Rattle.pc_cert.proofs.WordLists.{joined, word_is}
+use Rattle.pc_cert.proofs.Numerals.{and_is}
+use Rattle.pc_cert.proofs.PlainWords.{IsPlain, ArePlain}
+use Rattle.pc_cert.proofs.Spelled.{IsSpelled}
+use Rattle.pc_cert.proofs.RowSpelling.{IsRowOver, row_spelled}
+use Rattle.pc_cert.proofs.ProofSpelling.{proof_spelled}
+use Rattle.pc_cert.proofs.HeadSpelling.{point_spelled, edge_spelled}
+use Rattle.pc_cert.proofs.LineReading.{unread_of, AreTaken, ReadsLines, ok_same, give, line_reads}
+use Rattle.pc_cert.proofs.ListReading.{bind_ok, taken_none, taken_both, lines_both, AreGood, AreFew, repeated_reads, headed_reads}
+
+-- ---- points and edges
+
+abbrev pub IsPoint : ℕ → List Linear → Type 0
+IsPoint v = AreFew (IsRowOver v) ROWS
+
+abbrev pub IsEdge : List Proof → Type 0
+IsEdge = AreFew IsProof PREMISES
+
+pub point_reads : (v : ℕ) → v ≤ VARIABLES → (p : ℕ) → ReadsLines (point_reader v p) (point_lines v p) (IsPoint v)
+point_reads v most p =
+    headed_reads (Point v p) (λ k. counts (codes "point") (p ∷ k ∷ [])) ROWS (point_spelled v p) (row_reader v) (row_line v) (IsRowOver v)
+    (line_reads (Row v) (row_value v) (row_line v) (IsRowOver v) (row_spelled v most))
+
+pub edge_reads : (e : ℕ) → ReadsLines (edge_reader e) (edge_lines e) IsEdge
+edge_reads e =
+    headed_reads (Edge e) (λ k. counts (codes "edge") (e ∷ k ∷ [])) PREMISES (edge_spelled e) proof_reader proof_line IsProof
+    (line_reads ProofLine proof_value proof_line IsProof proof_spelled)
+
+-- ---- what stands behind the beginning of an alternative
+
+annotated_with : List (List Linear) → List (List Proof) → Annotated
+annotated_with rows proofs = record { rows = rows; proofs = proofs }
+
+pub record IsWhole (z : Sizes) (a : Annotated) : Type 0 where
+  pub rows : AreGood (IsPoint z.variables) z.points a.rows
+  pub proofs : AreGood IsEdge z.edges a.proofs
+
+abbrev annotated_lines : ℕ → Annotated → List Words
+annotated_lines v a = numbered (point_lines v) 0 a.rows ++ numbered edge_lines 0 a.proofs
+
+module _ (z : Sizes) (most : z.variables ≤ VARIABLES) where
+  rows_are : ReadsLines (repeated (point_reader z.variables) 0 z.points) (numbered (point_lines z.variables) 0) (AreGood (IsPoint z.variables) z.points)
+  rows_are = repeated_reads (point_reader z.variables) (point_lines z.variables) (IsPoint z.variables) (point_reads z.variables most) 0 z.points
+
+  proofs_are : ReadsLines (repeated edge_reader 0 z.edges) (numbered edge_lines 0) (AreGood IsEdge z.edges)
+  proofs_are = repeated_reads edge_reader edge_lines IsEdge edge_reads 0 z.edges
+
+  annotated_sound : (s left : Unread) (a : Annotated) → annotated_reader z s ≡ Ok (a, left) → IsWhole z a × AreTaken (annotated_lines z.variables a) s left
+  unfolding annotated_with
+  annotated_sound s left a e =
+      let first = bind_ok (List (List Linear) × Unread) (Annotated × Unread) (repeated (point_reader z.variables) 0 z.points s)
+          (λ rows. repeated edge_reader 0 z.edges rows.1 >>= (λ proofs. give proofs.1 (annotated_with rows.0 proofs.0))) (a, left) e in
+      let rows = first.0 in
+      let second = bind_ok (List (List Proof) × Unread) (Annotated × Unread) (repeated edge_reader 0 z.edges rows.1) (λ proofs. give proofs.1 (annotated_with rows.0 proofs.0)) (a, left) first.2 in
+      let proofs = second.0 in
+      let both = ok_same (annotated_with rows.0 proofs.0, proofs.1) (a, left) second.2 in
+      let whole : annotated_with rows.0 proofs.0 ≡ a = ap (λ (x : Annotated × Unread). x.0) both in
+      let same : proofs.1 ≡ left = ap (λ (x : Annotated × Unread). x.1) both in
+      let one = rows_are.sound s rows.1 rows.0 first.1 in
+      let two = proofs_are.sound rows.1 proofs.1 proofs.0 second.1 in
+      (subst (IsWhole z) whole (record { rows = one.0; proofs = two.0 }),
+      subst (λ b. AreTaken (annotated_lines z.variables b) s left) whole
+      (subst (AreTaken (annotated_lines z.variables (annotated_with rows.0 proofs.0)) s) same
+      (taken_both (numbered (point_lines z.variables) 0 rows.0) (numbered edge_lines 0 proofs.0) s rows.1 proofs.1 one.1 two.1)))
+
+  annotated_complete : (a : Annotated) → IsWhole z a → (n : ℕ) (rest : List Bytes) (tail : Bytes) →
+      (m : ℕ) × (annotated_reader z (unread_of n (map joined (annotated_lines z.variables a) ++ rest) tail) ≡ Ok (a, unread_of m rest tail))
+  unfolding annotated_with
+  annotated_complete a h n rest tail =
+      let points = numbered (point_lines z.variables) 0 a.rows in
+      let edges = numbered edge_lines 0 a.proofs in
+      let one = rows_are.complete a.rows h.rows n (map joined edges ++ rest) tail in
+      let two = proofs_are.complete a.proofs h.proofs one.0 rest tail in
+      (two.0,
+      ap (λ ls. annotated_reader z (unread_of n ls tail)) (lines_both points edges rest)
+      ∙ ap (λ t. t >>= (λ rows. repeated edge_reader 0 z.edges rows.1 >>= (λ proofs. give proofs.1 (annotated_with rows.0 proofs.0)))) one.1
+      ∙ ap (λ t. t >>= (λ proofs. give proofs.1 (annotated_with a.rows proofs.0))) two.1)
+
+  pub annotated_reads : ReadsLines (annotated_reader z) (annotated_lines z.variables) (IsWhole z)
+  annotated_reads = record { sound = annotated_sound; complete = annotated_complete }
+
+-- ---- the line that begins an alternative, or the end
+
+abbrev pub next_line : Bool → Words
+next_line more = cond more (codes "alternative" ∷ []) (codes "end" ∷ [])
+
+-- there is room for a further alternative
+abbrev pub HasRoom : ℕ → Bool → Type 0
+HasRoom n more = more ≡ true → n < ALTERNATIVES
+
+next_by : (n : ℕ) (ws : Words) (t : Bool) → is_word (codes "end") ws ≡ t → (is_word (codes "alternative") ws || t) ≡ true → (t || ltb n ALTERNATIVES) ≡ true →
+    HasRoom n (not t) × (next_line (not t) ≡ ws)
+next_by n ws true e h k = (λ f. absurd (cc), sym (word_is (codes "end") ws e))
+next_by n ws false e h k = (λ f. ltb-true n ALTERNATIVES k, sym (word_is (codes "alternative") ws (or_false (is_word (codes "alternative") ws) h)))
+  where
+    or_false : (b : Bool) → (b || false) ≡ true → b ≡ true
+    or_false true h = refl
+    or_false false h = h
+
+pub alternative_plain : IsPlain (codes "alternative")
+alternative_plain = (omega arith, (omega arith, (omega arith, (omega arith, (omega arith, (omega arith, (omega arith, (omega arith, (omega arith, (omega arith, (omega arith, tt)))))))))))
+
+pub end_plain : IsPlain (codes "end")
+end_plain = (omega arith, (omega arith, (omega arith, tt)))
+
+next_plain : (more : Bool) → ArePlain (next_line more)
+next_plain true = ((alternative_plain, tt), refl)
+next_plain false = ((end_plain, tt), refl)
+
+next_form : (more : Bool) → (is_word (codes "alternative") (next_line more) || is_word (codes "end") (next_line more)) ≡ true
+next_form true = refl
+next_form false = refl
+
+next_rules : (n : ℕ) (more : Bool) → HasRoom n more → (is_word (codes "end") (next_line more) || ltb n ALTERNATIVES) ≡ true
+next_rules n true h = lt-ltb n ALTERNATIVES (h refl)
+next_rules n false h = refl
+
+next_forth : (more : Bool) → goes_on (next_line more) ≡ more
+next_forth true = refl
+next_forth false = refl
+
+pub next_spelled : (z : Sizes) (n : ℕ) → IsSpelled (Next z n) goes_on next_line (HasRoom n)
+next_spelled z n = record {
+  back = λ ws h k. next_by n ws (is_word (codes "end") ws) refl h k;
+  plain = λ more h. next_plain more;
+  form = λ more h. next_form more;
+  rules = next_rules n;
+  forth = λ more h. next_forth more;
+}
+
+pub begins_reads : (z : Sizes) (n : ℕ) → ReadsLines (begins z n) (λ more. next_line more ∷ []) (HasRoom n)
+begins_reads z n = line_reads (Next z n) goes_on next_line (HasRoom n) (next_spelled z n)

@@ -1,0 +1,8 @@
+use Rattle.pc_cert.proofs.Meaning.{means, only}
+use Rattle.pc_cert.proofs.reading.read_certificate.Goals as goal
+
+pub returns-clause-means : goal.returns-clause-means
+returns-clause-means c = ?
+
+pub returns-clause-only : goal.returns-clause-only
+returns-clause-only c = ?
