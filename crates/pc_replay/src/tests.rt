@@ -18,9 +18,14 @@ type Numbers = [i64; 3];
 
 type Multipliers = (i64, &'static [(u32, i128)]);
 
+// The rows of a point, and the proofs of an edge.
+type RowsGiven = &'static [Numbers];
+
+type ProofsGiven = &'static [Multipliers];
+
 const STRAIGHT: &[u8] = b"entry (x) { x = x + [-2, 3]; assert (x >= 0); assert (x <= 10); }";
 
-const STRAIGHT_ROWS: [&[Numbers]; 5] = [
+const STRAIGHT_ROWS: [RowsGiven; 5] = [
     &[[-2, 1, 0], [7, -1, 0]],
     &[[-2, 1, 0], [7, -1, 0]],
     &[[0, 1, 0], [10, -1, 0]],
@@ -28,7 +33,7 @@ const STRAIGHT_ROWS: [&[Numbers]; 5] = [
     &[],
 ];
 
-const STRAIGHT_PROOFS: [&[Multipliers]; 4] = [
+const STRAIGHT_PROOFS: [ProofsGiven; 4] = [
     &[(1, &[(0, 1)]), (1, &[(1, 1)])],
     &[(1, &[(0, 1)]), (1, &[(1, 1)])],
     &[(1, &[(0, 1)]), (1, &[(1, 1)])],
@@ -45,7 +50,7 @@ const LOOP: &[u8] = b"entry (j) {
   }
 }";
 
-const LOOP_ROWS: [&[Numbers]; 8] = [
+const LOOP_ROWS: [RowsGiven; 8] = [
     &[[3, -1, 0]],
     &[[3, -1, 0]],
     &[[2, -1, 1]],
@@ -56,7 +61,7 @@ const LOOP_ROWS: [&[Numbers]; 8] = [
     &[],
 ];
 
-const LOOP_PROOFS: [&[Multipliers]; 8] = [
+const LOOP_PROOFS: [ProofsGiven; 8] = [
     &[(1, &[(0, 1)])],
     &[(1, &[(0, 1)])],
     &[(1, &[(0, 1), (1, 1)]), (1, &[(0, 1)])],
@@ -99,19 +104,26 @@ fn part(given: (u32, i128)) -> Option<Part>
     })
 }
 
-// At most two parts, with rising indices; any further are left out.
+// At most two parts, with rising indices; what follows is left out.
 fn parts(alloc: Global, given: &[(u32, i128)]) -> Result<Parts, Fail> {
     let mut parts = Parts::new(alloc);
-    if let [first, ..] = given
-        && let Some(first) = part(*first)
-    {
-        parts.push(first)?;
-        if let [_, second, ..] = given
-            && let Some(second) = part(*second)
-            && first.index < second.index
-        {
-            parts.push(second)?;
-        }
+    if given.len() == 0 {
+        return Ok(parts);
+    }
+    let Some(first) = part(given[0]) else {
+        return Ok(parts);
+    };
+    let before = first.index;
+    parts.push(first)?;
+    if given.len() == 1 {
+        return Ok(parts);
+    }
+    let Some(second) = part(given[1]) else {
+        return Ok(parts);
+    };
+    let index = second.index;
+    if before < index {
+        parts.push(second)?;
     }
     Ok(parts)
 }
@@ -127,8 +139,8 @@ fn proofs(alloc: Global, given: &[Multipliers]) -> Result<Items<Proof>, Fail> {
 
 fn alternative(
     alloc: Global,
-    points: &[&[Numbers]],
-    edges: &[&[Multipliers]],
+    points: &[RowsGiven],
+    edges: &[ProofsGiven],
 ) -> Result<Annotated, Fail> {
     let mut all_rows = Items::new(alloc);
     for given in points {
@@ -146,8 +158,8 @@ fn alternative(
 
 fn certificate(
     alloc: Global,
-    points: &[&[Numbers]],
-    edges: &[&[Multipliers]],
+    points: &[RowsGiven],
+    edges: &[ProofsGiven],
     variables: u32,
 ) -> Result<Certificate, Fail> {
     let mut alternatives = Items::new(alloc);
@@ -161,13 +173,7 @@ fn certificate(
 }
 
 // Other rows for a point and other proofs for an edge, and what is then said of the certificate.
-type Change = (
-    usize,
-    &'static [Numbers],
-    usize,
-    &'static [Multipliers],
-    Ruling,
-);
+type Change = (usize, RowsGiven, usize, ProofsGiven, Ruling);
 
 const STRAIGHT_CHANGES: [Change; 10] = [
     (4, &[], 3, &[(1, &[(0, 1)])], Ruling::Accepted),
@@ -404,16 +410,37 @@ fn a_certificate_of_a_loop_is_accepted_or_has_its_first_fault_told(
     Ok(())
 }
 
+// A local has a coefficient in the second row of the entry.
+const ROWS_WITH_A_LOCAL: [RowsGiven; 8] = [
+    &[[3, -1, 0], [3, -1, 1]],
+    &[],
+    &[],
+    &[],
+    &[],
+    &[],
+    &[],
+    &[],
+];
+
+// The edge back to the head has no proof.
+const PROOFS_WITH_A_GAP: [ProofsGiven; 8] = [
+    &[(1, &[(0, 1)])],
+    &[(1, &[(0, 1)])],
+    &[(1, &[(0, 1), (1, 1)]), (1, &[(0, 1)])],
+    &[(1, &[(0, 1)]), (1, &[(1, 1)])],
+    &[(1, &[(0, 1)]), (1, &[(1, 1)])],
+    &[(1, &[(0, 1)]), (1, &[(1, 1)])],
+    &[],
+    &[],
+];
+
 #[test]
 fn an_alternative_is_looked_at_whole_before_the_next(rt: HostRuntime) -> Result<(), Fail> {
     let alloc = rt.alloc();
     let g = graph(alloc, LOOP)?;
-    let mut local_at_entry = LOOP_ROWS;
-    local_at_entry[0] = &[[3, -1, 0], [3, -1, 1]];
-    let mut proofs = LOOP_PROOFS;
-    let mut c = certificate(alloc, &LOOP_ROWS, &proofs, 2)?;
-    c.alternatives
-        .push(alternative(alloc, &local_at_entry, &proofs)?)?;
+    let mut c = certificate(alloc, &LOOP_ROWS, &LOOP_PROOFS, 2)?;
+    let second = alternative(alloc, &ROWS_WITH_A_LOCAL, &LOOP_PROOFS)?;
+    c.alternatives.push(second)?;
     assert_eq!(rt;
         accept(&g, &c),
         Ruling::Entry {
@@ -421,10 +448,9 @@ fn an_alternative_is_looked_at_whole_before_the_next(rt: HostRuntime) -> Result<
             row: 1,
         }
     );
-    proofs[6] = &[];
-    let mut c = certificate(alloc, &LOOP_ROWS, &proofs, 2)?;
-    c.alternatives
-        .push(alternative(alloc, &local_at_entry, &proofs)?)?;
+    let mut c = certificate(alloc, &LOOP_ROWS, &PROOFS_WITH_A_GAP, 2)?;
+    let second = alternative(alloc, &ROWS_WITH_A_LOCAL, &LOOP_PROOFS)?;
+    c.alternatives.push(second)?;
     assert_eq!(rt;
         accept(&g, &c),
         Ruling::Count {
@@ -435,16 +461,18 @@ fn an_alternative_is_looked_at_whole_before_the_next(rt: HostRuntime) -> Result<
     Ok(())
 }
 
+const LARGE: &[u8] =
+    b"entry (x) { x = 170141183460469231731687303715884105727 * x; assert (x <= 0); }";
+
+const LARGE_ROWS: [RowsGiven; 4] = [&[], &[], &[[0, -2, 0]], &[]];
+
+const LARGE_PROOFS: [ProofsGiven; 3] = [&[], &[(-1, &[])], &[]];
+
 #[test]
 fn a_row_that_cannot_be_carried_back_is_past(rt: HostRuntime) -> Result<(), Fail> {
     let alloc = rt.alloc();
-    let g = graph(
-        alloc,
-        b"entry (x) { x = 170141183460469231731687303715884105727 * x; assert (x <= 0); }",
-    )?;
-    let points: [&[Numbers]; 4] = [&[], &[], &[[0, -2, 0]], &[]];
-    let edges: [&[Multipliers]; 3] = [&[], &[(-1, &[])], &[]];
-    let c = certificate(alloc, &points, &edges, 1)?;
+    let g = graph(alloc, LARGE)?;
+    let c = certificate(alloc, &LARGE_ROWS, &LARGE_PROOFS, 1)?;
     assert_eq!(rt;
         accept(&g, &c),
         Ruling::Past {
