@@ -15,6 +15,7 @@ use Rattle.pc_cert.specs.Certificate.{Certificate}
 use Rattle.pc_cert.specs.CertificateTexts.{IsTextOf}
 use Rattle.pc_cert.specs.Faults.{fault_of}
 use Rattle.pc_cert.specs.declared.fault.CertFault.{CertFault}
+use Rattle.pc_cert.proofs.Meaning.{each_text_has_one_answer, text_determines_certificate}
 use Rattle.pc_graph.specs.Arc.{Enter, arc}
 use Rattle.pc_graph.specs.Lowering.{graph, rules, points_from}
 use Rattle.pc_graph.specs.Flow.{Flow}
@@ -53,10 +54,11 @@ graph_of c =
 
 -- the text of a certificate has no fault
 text_has_no_fault : (b : Bytes) (c : Certificate) (f : CertFault) → IsTextOf b c → fault_of b ≡ Some f → ⊥
-text_has_no_fault b c f is faulty = ?
-
-same_certificate : (b : Bytes) (c d : Certificate) → IsTextOf b c → IsTextOf b d → c ≡ d
-same_certificate b c d p q = ?
+text_has_no_fault b c f is faulty = by (each_text_has_one_answer b)
+  where
+    by : ((d : Certificate) × IsTextOf b d × (fault_of b ≡ None)) ⊎ ((e : CertFault) × (fault_of b ≡ Some e) × ((d : Certificate) → IsTextOf b d → ⊥)) → ⊥
+    by (inl x) = let none = x.2 in absurd (cc)
+    by (inr x) = x.2 c is
 
 same_bytes : (held : Holding) (a b : Bytes) → held ≢ Untold → MayHold held a → MayHold held b → a ≡ b
 same_bytes Untold a b told p q = absurd (told refl)
@@ -102,7 +104,7 @@ module _ (s : ℕ) (t : Bytes) (s' : ℕ) (t' : Bytes) where
   certificate_once A B one bytes (IsNoCertificate f faulty e u) (IsCertificate d is y) = absurd (text_has_no_fault bytes d f is faulty)
   certificate_once A B one bytes (IsCertificate c is x) (IsNoCertificate f faulty e u) = absurd (text_has_no_fault bytes c f is faulty)
   certificate_once A B one bytes (IsCertificate c is x) (IsCertificate d is' y) =
-      let same = same_certificate bytes d c is' is in
+      let same = text_determines_certificate bytes d c is' is in
       one c x (subst (λ (z : Certificate). B z s' t') same y)
 
   analysis_once : (A : Program → ℕ → Bytes → Type 0) → ((p : Program) (status : ℕ) (text : Bytes) → A p status text → status ≡ DONE) → (p q : Program) → content_of p ≡ content_of q →
