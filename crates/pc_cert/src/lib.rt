@@ -5,6 +5,7 @@
 
 mod alternatives;
 mod certificate;
+mod entry;
 mod fault;
 mod heads;
 mod laws;
@@ -20,6 +21,7 @@ mod words;
 
 pub use alternatives::{condition, push_rows, text_determines_condition};
 pub use certificate::{ALTERNATIVES, Annotated, Certificate, EDGES, POINTS};
+pub use entry::show_condition;
 pub use fault::CertFault;
 pub use laws::{each_text_has_one_answer, text_determines_certificate};
 pub use reading::read_certificate;
