@@ -69,7 +69,7 @@ module _ (z : Sizes) (most : z.variables ≤ VARIABLES) where
   unfolding annotated_with
   annotated_sound s left a e =
       let first = bind_ok (List (List Linear) × Unread) (Annotated × Unread) (repeated (point_reader z.variables) 0 z.points s)
-          (λ rows. repeated edge_reader 0 z.edges rows.1 >>= (λ proofs. give proofs.1 (annotated_with rows.0 proofs.0))) (a, left) e in
+      (λ rows. repeated edge_reader 0 z.edges rows.1 >>= (λ proofs. give proofs.1 (annotated_with rows.0 proofs.0))) (a, left) e in
       let rows = first.0 in
       let second = bind_ok (List (List Proof) × Unread) (Annotated × Unread) (repeated edge_reader 0 z.edges rows.1) (λ proofs. give proofs.1 (annotated_with rows.0 proofs.0)) (a, left) first.2 in
       let proofs = second.0 in
@@ -77,11 +77,12 @@ module _ (z : Sizes) (most : z.variables ≤ VARIABLES) where
       let whole : annotated_with rows.0 proofs.0 ≡ a = ap (λ (x : Annotated × Unread). x.0) both in
       let same : proofs.1 ≡ left = ap (λ (x : Annotated × Unread). x.1) both in
       let one = rows_are.sound s rows.1 rows.0 first.1 in
-      let two = proofs_are.sound rows.1 proofs.1 proofs.0 second.1 in
-      (subst (IsWhole z) whole (record { rows = one.0; proofs = two.0 }),
-      subst (λ b. AreTaken (annotated_lines z.variables b) s left) whole
-      (subst (AreTaken (annotated_lines z.variables (annotated_with rows.0 proofs.0)) s) same
-      (taken_both (numbered (point_lines z.variables) 0 rows.0) (numbered edge_lines 0 proofs.0) s rows.1 proofs.1 one.1 two.1)))
+      let two = proofs_are.sound rows.1 proofs.1 proofs.0 second.1 in (
+        subst (IsWhole z) whole (record { rows = one.0; proofs = two.0 }),
+        subst (λ b. AreTaken (annotated_lines z.variables b) s left) whole
+            (subst (AreTaken (annotated_lines z.variables (annotated_with rows.0 proofs.0)) s) same
+            (taken_both (numbered (point_lines z.variables) 0 rows.0) (numbered edge_lines 0 proofs.0) s rows.1 proofs.1 one.1 two.1)),
+      )
 
   annotated_complete : (a : Annotated) → IsWhole z a → (n : ℕ) (rest : List Bytes) (tail : Bytes) →
       (m : ℕ) × (annotated_reader z (unread_of n (map joined (annotated_lines z.variables a) ++ rest) tail) ≡ Ok (a, unread_of m rest tail))
@@ -90,11 +91,12 @@ module _ (z : Sizes) (most : z.variables ≤ VARIABLES) where
       let points = numbered (point_lines z.variables) 0 a.rows in
       let edges = numbered edge_lines 0 a.proofs in
       let one = rows_are.complete a.rows h.rows n (map joined edges ++ rest) tail in
-      let two = proofs_are.complete a.proofs h.proofs one.0 rest tail in
-      (two.0,
-      ap (λ ls. annotated_reader z (unread_of n ls tail)) (lines_both points edges rest)
-      ∙ ap (λ t. t >>= (λ rows. repeated edge_reader 0 z.edges rows.1 >>= (λ proofs. give proofs.1 (annotated_with rows.0 proofs.0)))) one.1
-      ∙ ap (λ t. t >>= (λ proofs. give proofs.1 (annotated_with a.rows proofs.0))) two.1)
+      let two = proofs_are.complete a.proofs h.proofs one.0 rest tail in (
+        two.0,
+        ap (λ ls. annotated_reader z (unread_of n ls tail)) (lines_both points edges rest)
+            ∙ ap (λ t. t >>= (λ rows. repeated edge_reader 0 z.edges rows.1 >>= (λ proofs. give proofs.1 (annotated_with rows.0 proofs.0)))) one.1
+            ∙ ap (λ t. t >>= (λ proofs. give proofs.1 (annotated_with a.rows proofs.0))) two.1,
+      )
 
   pub annotated_reads : ReadsLines (annotated_reader z) (annotated_lines z.variables) (IsWhole z)
   annotated_reads = record { sound = annotated_sound; complete = annotated_complete }

@@ -29,9 +29,9 @@ annotated_finds z = λ more s.
     ap (λ ws. fault_in ws s) (append_assoc points edges more)
     ∙ repeated_finds (List Linear) (point_reader z.variables) (Point z.variables) (point_finds z.variables) 0 z.points (edges ++ more) s
     ∙ or_left_same (repeated (point_reader z.variables) 0 z.points s) (λ rows left. fault_in (edges ++ more) left)
-      (λ rows left. or_left (repeated edge_reader 0 z.edges left >>= (λ proofs. give proofs.1 (annotated_with rows proofs.0))) (λ a left. fault_in more left))
-      (λ rows left. repeated_finds (List Proof) edge_reader Edge edge_finds 0 z.edges more left
-        ∙ sym (or_left_then (repeated edge_reader 0 z.edges left) (λ proofs. give proofs.1 (annotated_with rows proofs.0)) (λ a left. fault_in more left)))
+    (λ rows left. or_left (repeated edge_reader 0 z.edges left >>= (λ proofs. give proofs.1 (annotated_with rows proofs.0))) (λ a left. fault_in more left))
+    (λ rows left. repeated_finds (List Proof) edge_reader Edge edge_finds 0 z.edges more left
+    ∙ sym (or_left_then (repeated edge_reader 0 z.edges left) (λ proofs. give proofs.1 (annotated_with rows proofs.0)) (λ a left. fault_in more left)))
     ∙ sym (or_left_then (repeated (point_reader z.variables) 0 z.points s) (λ rows. repeated edge_reader 0 z.edges rows.1 >>= (λ proofs. give proofs.1 (annotated_with rows.0 proofs.0))) (λ a left. fault_in more left))
 
 -- ---- alternatives
@@ -65,8 +65,8 @@ one_by z n k more again true left =
     ap (λ ws. fault_in ws left) (append_assoc lines (Next z (n + 1) ∷ []) more)
     ∙ annotated_finds z (Next z (n + 1) ∷ more) left
     ∙ or_left_same (annotated_reader z left) (λ a left. fault_in (Next z (n + 1) ∷ more) left)
-      (λ a left. or_left (alternatives_reader z (n + 1) k left >>= (λ others. give others.1 (a ∷ others.0))) (λ all left. fault_in more left))
-      (λ a left. again more left ∙ sym (or_left_then (alternatives_reader z (n + 1) k left) (λ others. give others.1 (a ∷ others.0)) (λ all left. fault_in more left)))
+    (λ a left. or_left (alternatives_reader z (n + 1) k left >>= (λ others. give others.1 (a ∷ others.0))) (λ all left. fault_in more left))
+    (λ a left. again more left ∙ sym (or_left_then (alternatives_reader z (n + 1) k left) (λ others. give others.1 (a ∷ others.0)) (λ all left. fault_in more left)))
     ∙ sym (or_left_then (annotated_reader z left) (λ a. alternatives_reader z (n + 1) k a.1 >>= (λ others. give others.1 (a.0 ∷ others.0))) (λ all left. fault_in more left))
 
 alternatives_find : (z : Sizes) (k n : ℕ) → n + k ≡ ALTERNATIVES → FindsFault (alternatives_reader z n k) (Next z n ∷ [])
@@ -77,7 +77,7 @@ alternatives_find z zero n room = λ more s.
 alternatives_find z (suc k) n room = λ more s.
     next_brings z n more s
     ∙ or_left_same (begins z n s) (λ b left. fault_in (wants_of z n b ++ more) left) (λ b left. or_left (read_one z n k (b, left)) (λ all left. fault_in more left))
-      (one_by z n k more (alternatives_find z k (n + 1) (omega arith)))
+    (one_by z n k more (alternatives_find z k (n + 1) (omega arith)))
     ∙ sym (ap (λ r. or_left r (λ all left. fault_in more left)) (one_is z n k s) ∙ or_left_then (begins z n s) (read_one z n k) (λ all left. fault_in more left))
 
 -- ---- certificates
@@ -123,5 +123,5 @@ pub certificate_finds : (s : Unread) → fault_in (Version ∷ Graph ∷ []) s �
 certificate_finds s =
     line_brings (Unit {0}) Version (λ _. tt) (λ _. []) (λ ws. refl) (Graph ∷ []) s.number s.lines s.tail
     ∙ or_left_same (read_line {A = Unit {0}} Version (λ _. tt) s) (λ _ left. fault_in (Graph ∷ []) left)
-      (λ _ left. fault_in_answer (read_line Graph sizes_of left >>= (λ z. alternatives_reader z.0 0 ALTERNATIVES z.1 >>= (λ all. whole z.0 all.0 all.1)))) (λ _ left. graph_finds left)
+    (λ _ left. fault_in_answer (read_line Graph sizes_of left >>= (λ z. alternatives_reader z.0 0 ALTERNATIVES z.1 >>= (λ all. whole z.0 all.0 all.1)))) (λ _ left. graph_finds left)
     ∙ sym (answer_then (read_line {A = Unit {0}} Version (λ _. tt) s) (λ v. read_line Graph sizes_of v.1 >>= (λ z. alternatives_reader z.0 0 ALTERNATIVES z.1 >>= (λ all. whole z.0 all.0 all.1))))

@@ -68,11 +68,12 @@ module _ (z : Sizes) (most : z.variables ≤ VARIABLES) where
       let rest = again (omega arith) a.1 others.1 others.0 second.1 in
       let head = taken_both ((codes "alternative" ∷ []) ∷ []) _ s left a.1 taken one.1 in
       let lines = taken_both (alternative_lines z.variables a.0) (alternatives_lines z.variables others.0) s a.1 others.1 head rest.1 in
-      let few = rest.0.few in
-      (subst (AreFew (IsWhole z) (suc k)) is (record { few = omega arith; each = (one.0, rest.0.each) }),
-      subst (λ as'. AreTaken (alternatives_lines z.variables as') s after) is
-      (subst (AreTaken (alternatives_lines z.variables (a.0 ∷ others.0)) s) same
-      (subst (λ ls. AreTaken ls s others.1) (sym (append_assoc (alternative_lines z.variables a.0) (flat_map (alternative_lines z.variables) others.0) ((codes "end" ∷ []) ∷ []))) lines)))
+      let few = rest.0.few in (
+        subst (AreFew (IsWhole z) (suc k)) is (record { few = omega arith; each = (one.0, rest.0.each) }),
+        subst (λ as'. AreTaken (alternatives_lines z.variables as') s after) is
+            (subst (AreTaken (alternatives_lines z.variables (a.0 ∷ others.0)) s) same
+            (subst (λ ls. AreTaken ls s others.1) (sym (append_assoc (alternative_lines z.variables a.0) (flat_map (alternative_lines z.variables) others.0) ((codes "end" ∷ []) ∷ []))) lines)),
+      )
 
   last_sound : (n : ℕ) → n + 0 ≡ ALTERNATIVES → (s : Unread) (more : Bool) (left after : Unread) (all : List Annotated) → (more ≡ true → n < ALTERNATIVES) → AreTaken (next_line more ∷ []) s left →
       ◌≡◌ {A = Result (List Annotated × Unread) CertFault} (give left []) (Ok (all, after)) → AreFew (IsWhole z) 0 all × AreTaken (alternatives_lines z.variables all) s after
@@ -116,13 +117,14 @@ module _ (z : Sizes) (most : z.variables ≤ VARIABLES) where
       let behind = map joined (alternatives_lines z.variables as') ++ rest in
       let one = (begins_reads z n).complete true (λ e. omega arith) m (map joined (numbered (point_lines z.variables) 0 a.rows ++ numbered edge_lines 0 a.proofs) ++ behind) tail in
       let two = (annotated_reads z most).complete a h.each.0 one.0 behind tail in
-      let three = alternatives_complete k (n + 1) (omega arith) as' (record { few = omega arith; each = h.each.1 }) two.0 rest tail in
-      (three.0,
-      ap (λ ls. alternatives_reader z n (suc k) (unread_of m ls tail)) (lines_on a as' rest)
-      ∙ one_is z n k _
-      ∙ ap (λ t. t >>= read_one z n k) one.1
-      ∙ ap (λ t. t >>= (λ a. alternatives_reader z (n + 1) k a.1 >>= (λ others. give others.1 (a.0 ∷ others.0)))) two.1
-      ∙ ap (λ t. t >>= (λ others. give others.1 (a ∷ others.0))) three.1)
+      let three = alternatives_complete k (n + 1) (omega arith) as' (record { few = omega arith; each = h.each.1 }) two.0 rest tail in (
+        three.0,
+        ap (λ ls. alternatives_reader z n (suc k) (unread_of m ls tail)) (lines_on a as' rest)
+            ∙ one_is z n k _
+            ∙ ap (λ t. t >>= read_one z n k) one.1
+            ∙ ap (λ t. t >>= (λ a. alternatives_reader z (n + 1) k a.1 >>= (λ others. give others.1 (a.0 ∷ others.0)))) two.1
+            ∙ ap (λ t. t >>= (λ others. give others.1 (a ∷ others.0))) three.1,
+      )
 
   pub alternatives_read : ReadsLines (alternatives_reader z 0 ALTERNATIVES) (alternatives_lines z.variables) (AreFew (IsWhole z) ALTERNATIVES)
   alternatives_read = record { sound = λ s left all e. alternatives_sound ALTERNATIVES 0 refl s left all e; complete = alternatives_complete ALTERNATIVES 0 refl }

@@ -66,7 +66,7 @@ repeated_finds A r wanted one i zero = λ more s. refl
 repeated_finds A r wanted one i (suc k) = λ more s.
     one i (in_order wanted (i + 1) k ++ more) s
     ∙ or_left_same (r i s) (λ x left. fault_in (in_order wanted (i + 1) k ++ more) left) (λ x left. or_left (repeated r (i + 1) k left >>= (λ xs. give xs.1 (x ∷ xs.0))) (λ ys left. fault_in more left))
-      (λ x left. repeated_finds A r wanted one (i + 1) k more left ∙ sym (or_left_then (repeated r (i + 1) k left) (λ xs. give xs.1 (x ∷ xs.0)) (λ ys left. fault_in more left)))
+    (λ x left. repeated_finds A r wanted one (i + 1) k more left ∙ sym (or_left_then (repeated r (i + 1) k left) (λ xs. give xs.1 (x ∷ xs.0)) (λ ys left. fault_in more left)))
     ∙ sym (or_left_then (r i s) (λ x. repeated r (i + 1) k x.1 >>= (λ xs. give xs.1 (x.0 ∷ xs.0))) (λ ys left. fault_in more left))
 
 same_wanted : (w : Wanted) (i k : ℕ) → replicate k w ≡ in_order (λ _. w) i k
@@ -79,7 +79,7 @@ headed_finds : (A : Type 0) (head item : Wanted) (r : Reader A) → ((ws : Words
 headed_finds A head item r brought one = λ more s.
     line_brings ℕ head (number_at 2) (λ k. replicate k item) brought more s.number s.lines s.tail
     ∙ or_left_same (read_line head (number_at 2) s) (λ k left. fault_in (replicate k item ++ more) left) (λ k left. or_left (repeated (λ _. r) 0 k left) (λ xs left. fault_in more left))
-      (λ k left. ap (λ ws. fault_in (ws ++ more) left) (same_wanted item 0 k) ∙ repeated_finds A (λ _. r) (λ _. item) (λ _. one) 0 k more left)
+    (λ k left. ap (λ ws. fault_in (ws ++ more) left) (same_wanted item 0 k) ∙ repeated_finds A (λ _. r) (λ _. item) (λ _. one) 0 k more left)
     ∙ sym (or_left_then (read_line head (number_at 2) s) (λ k. repeated (λ _. r) 0 k.0 k.1) (λ xs left. fault_in more left))
 
 row_finds : (v : ℕ) → FindsFault (row_reader v) (Row v ∷ [])

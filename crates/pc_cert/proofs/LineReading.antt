@@ -44,12 +44,13 @@ module _ {A : Type 0} (wanted : Wanted) (value : Words → A) (line : A → Word
   sound_by n (l ∷ ls) tail left x e =
       let told = told_by A (has_form wanted (words l)) (keeps_rules wanted (words l)) n (value (words l)) x (unread_of (n + 1) ls tail) left e in
       let back = is.back (words l) told.0 told.1 in
-      let spelled : joined (line x) ≡ l = ap (λ y. joined (line y)) (sym told.2) ∙ ap joined back.1 ∙ line_of_words l in
-      (subst good told.2 back.0,
-      record {
-        lines = ap (λ z. z ∷ ls) (sym spelled) ∙ ap (λ (u : Unread). joined (line x) ∷ u.lines) told.3;
-        tail = ap (λ (u : Unread). u.tail) told.3;
-      })
+      let spelled : joined (line x) ≡ l = ap (λ y. joined (line y)) (sym told.2) ∙ ap joined back.1 ∙ line_of_words l in (
+        subst good told.2 back.0,
+        record {
+          lines = ap (λ z. z ∷ ls) (sym spelled) ∙ ap (λ (u : Unread). joined (line x) ∷ u.lines) told.3;
+          tail = ap (λ (u : Unread). u.tail) told.3;
+        },
+      )
 
   value_by : (n : ℕ) (l : Bytes) (x : A) → words l ≡ line x → good x → line_value wanted value n (words l) ≡ Ok x
   value_by n l x e h =

@@ -44,9 +44,10 @@ module _ {A : Type 0} (r : ℕ → Reader A) (lines : ℕ → A → List Words) 
   repeated_sound i zero s left xs e =
       let both = ok_same ([], s) (xs, left) e in
       let none : [] ≡ xs = ap (λ (z : List A × Unread). z.0) both in
-      let same : s ≡ left = ap (λ (z : List A × Unread). z.1) both in
-      (subst (AreGood good 0) none (record { count = refl; each = tt }),
-      subst (λ ys. AreTaken (numbered lines i ys) s left) none (subst (AreTaken [] s) same (taken_none s)))
+      let same : s ≡ left = ap (λ (z : List A × Unread). z.1) both in (
+        subst (AreGood good 0) none (record { count = refl; each = tt }),
+        subst (λ ys. AreTaken (numbered lines i ys) s left) none (subst (AreTaken [] s) same (taken_none s)),
+      )
   repeated_sound i (suc k) s left xs e =
       let first = bind_ok (A × Unread) (List A × Unread) (r i s) (λ x. repeated r (i + 1) k x.1 >>= (λ ys. give ys.1 (x.0 ∷ ys.0))) (xs, left) e in
       let x = first.0 in
@@ -57,10 +58,11 @@ module _ {A : Type 0} (r : ℕ → Reader A) (lines : ℕ → A → List Words) 
       let same : ys.1 ≡ left = ap (λ (z : List A × Unread). z.1) both in
       let one = (is i).sound s x.1 x.0 first.1 in
       let others = repeated_sound (i + 1) k x.1 ys.1 ys.0 more.1 in
-      let counted = others.0.count in
-      (subst (AreGood good (suc k)) all (record { count = omega arith; each = (one.0, others.0.each) }),
-      subst (λ zs. AreTaken (numbered lines i zs) s left) all
-      (subst (AreTaken (lines i x.0 ++ numbered lines (i + 1) ys.0) s) same (taken_both (lines i x.0) (numbered lines (i + 1) ys.0) s x.1 ys.1 one.1 others.1)))
+      let counted = others.0.count in (
+        subst (AreGood good (suc k)) all (record { count = omega arith; each = (one.0, others.0.each) }),
+        subst (λ zs. AreTaken (numbered lines i zs) s left) all
+            (subst (AreTaken (lines i x.0 ++ numbered lines (i + 1) ys.0) s) same (taken_both (lines i x.0) (numbered lines (i + 1) ys.0) s x.1 ys.1 one.1 others.1)),
+      )
 
   repeated_complete : (i k : ℕ) (xs : List A) → AreGood good k xs → (n : ℕ) (rest : List Bytes) (tail : Bytes) →
       (m : ℕ) × (repeated r i k (unread_of n (map joined (numbered lines i xs) ++ rest) tail) ≡ Ok (xs, unread_of m rest tail))
@@ -70,11 +72,12 @@ module _ {A : Type 0} (r : ℕ → Reader A) (lines : ℕ → A → List Words) 
   repeated_complete i (suc k) (x ∷ xs) h n rest tail =
       let counted = h.count in
       let one = (is i).complete x h.each.0 n (map joined (numbered lines (i + 1) xs) ++ rest) tail in
-      let others = repeated_complete (i + 1) k xs (record { count = omega arith; each = h.each.1 }) one.0 rest tail in
-      (others.0,
-      ap (λ ls. repeated r i (suc k) (unread_of n ls tail)) (lines_both (lines i x) (numbered lines (i + 1) xs) rest)
-      ∙ ap (λ t. t >>= (λ y. repeated r (i + 1) k y.1 >>= (λ ys. give ys.1 (y.0 ∷ ys.0)))) one.1
-      ∙ ap (λ t. t >>= (λ ys. give ys.1 (x ∷ ys.0))) others.1)
+      let others = repeated_complete (i + 1) k xs (record { count = omega arith; each = h.each.1 }) one.0 rest tail in (
+        others.0,
+        ap (λ ls. repeated r i (suc k) (unread_of n ls tail)) (lines_both (lines i x) (numbered lines (i + 1) xs) rest)
+            ∙ ap (λ t. t >>= (λ y. repeated r (i + 1) k y.1 >>= (λ ys. give ys.1 (y.0 ∷ ys.0)))) one.1
+            ∙ ap (λ t. t >>= (λ ys. give ys.1 (x ∷ ys.0))) others.1,
+      )
 
   -- so many values, one after another
   pub repeated_reads : (i k : ℕ) → ReadsLines (repeated r i k) (numbered lines i) (AreGood good k)
@@ -101,21 +104,23 @@ module _ {A : Type 0} (wanted : Wanted) (head : ℕ → Words) (most : ℕ) (spe
       let one = (line_reads wanted (number_at 2) head (λ k. k ≤ most) spelled).sound s k.1 k.0 first.1 in
       let others = (repeated_reads (λ _. r) (λ _ x. line x ∷ []) good (λ _. is) 0 k.0).sound k.1 left xs first.2 in
       let counted = others.0.count in
-      let within : k.0 ≤ most = one.0 in
-      (record { few = omega arith; each = others.0.each },
-      subst (λ n. AreTaken (head n ∷ map line xs) s left) (sym counted)
-      (subst (λ ls. AreTaken (head k.0 ∷ ls) s left) (singles line 0 xs) (taken_both (head k.0 ∷ []) (numbered (λ _ x. line x ∷ []) 0 xs) s k.1 left one.1 others.1)))
+      let within : k.0 ≤ most = one.0 in (
+        record { few = omega arith; each = others.0.each },
+        subst (λ n. AreTaken (head n ∷ map line xs) s left) (sym counted)
+            (subst (λ ls. AreTaken (head k.0 ∷ ls) s left) (singles line 0 xs) (taken_both (head k.0 ∷ []) (numbered (λ _ x. line x ∷ []) 0 xs) s k.1 left one.1 others.1)),
+      )
 
   headed_complete : (xs : List A) → AreFew good most xs → (n : ℕ) (rest : List Bytes) (tail : Bytes) →
       (m : ℕ) × (headed (unread_of n (map joined (head (length xs) ∷ map line xs) ++ rest) tail) ≡ Ok (xs, unread_of m rest tail))
   unfolding headed
   headed_complete xs h n rest tail =
       let one = (line_reads wanted (number_at 2) head (λ k. k ≤ most) spelled).complete (length xs) h.few n (map joined (map line xs) ++ rest) tail in
-      let others = (repeated_reads (λ _. r) (λ _ x. line x ∷ []) good (λ _. is) 0 (length xs)).complete xs (record { count = refl; each = h.each }) one.0 rest tail in
-      (others.0,
-      ap (λ t. t >>= (λ k. repeated (λ _. r) 0 k.0 k.1)) one.1
-      ∙ ap (λ ls. repeated (λ _. r) 0 (length xs) (unread_of one.0 (map joined ls ++ rest) tail)) (sym (singles line 0 xs))
-      ∙ others.1)
+      let others = (repeated_reads (λ _. r) (λ _ x. line x ∷ []) good (λ _. is) 0 (length xs)).complete xs (record { count = refl; each = h.each }) one.0 rest tail in (
+        others.0,
+        ap (λ t. t >>= (λ k. repeated (λ _. r) 0 k.0 k.1)) one.1
+            ∙ ap (λ ls. repeated (λ _. r) 0 (length xs) (unread_of one.0 (map joined ls ++ rest) tail)) (sym (singles line 0 xs))
+            ∙ others.1,
+      )
 
   -- a count, and then so many lines
   pub headed_reads : ReadsLines (λ s. read_line wanted (number_at 2) s >>= (λ k. repeated (λ _. r) 0 k.0 k.1)) (λ xs. head (length xs) ∷ map line xs) (AreFew good most)

@@ -10,7 +10,7 @@ use Rattle.pc_cert.specs.declared.fault.CertFault.{CertFault}
 use Rattle.pc_cert.specs.Certificate.{Certificate, IsShowable, IsCertificate}
 use Rattle.pc_cert.specs.Words.{Words}
 use Rattle.pc_cert.specs.Faults.{all_but_last, last_of, ended_lines, tail_of, fault_of}
-use Rattle.pc_cert.specs.Readers.{certificate_reader, certificate_of}
+use Rattle.pc_cert.specs.Readers.{Unread, unread, certificate_reader, certificate_of}
 use Rattle.pc_cert.specs.CertificateTexts.{certificate_lines, certificate_text, line_text, lines_text, IsTextOf}
 use Rattle.pc_cert.specs.Answers.{Unless, Gives, Means, TextDeterminesCertificate, EachTextHasOneAnswer}
 use Rattle.pc_cert.proofs.WordLists.{joined}
@@ -70,6 +70,11 @@ is_read b c h =
 fault_is : (b : Bytes) → fault_of b ≡ fault_in_answer (certificate_of b)
 unfolding certificate_of fault_of
 fault_is b = certificate_finds (unread_of 1 (ended_lines b) (tail_of b))
+
+-- the certificate of a text is what its lines give
+pub gives_of : (b : Bytes) (s : Unread) (r : Result Certificate CertFault) → s ≡ unread (record { rest = b; number = 1 }) → Gives (certificate_reader s) r → Gives (certificate_of b) r
+unfolding certificate_of
+gives_of b s r e g = subst (λ u. Gives (certificate_reader u) r) e g
 
 means_by : (b : Bytes) (r : Result Certificate CertFault) → Gives (certificate_of b) r → Means b r
 means_by b (Ok c) g = read_is b c g

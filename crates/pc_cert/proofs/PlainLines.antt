@@ -43,6 +43,10 @@ alternative_lines_plain v a =
     ((alternative_plain, tt), both_plain (numbered (point_lines v) 0 a.rows) (numbered edge_lines 0 a.proofs) (numbered_plain (point_lines v) (point_lines_plain v) 0 a.rows) (numbered_plain edge_lines edge_lines_plain 0 a.proofs))
 
 pub certificate_plain : (c : Certificate) → ArePlainLines (certificate_lines c)
-certificate_plain c =
-    ((precond_plain, (one_plain, tt)), ((graph_plain, counts_plain (c.points ∷ c.edges ∷ c.variables ∷ [])),
-    both_plain (flat_map (alternative_lines c.variables) c.alternatives) ((codes "end" ∷ []) ∷ []) (flat_plain (alternative_lines c.variables) (alternative_lines_plain c.variables) c.alternatives) ((end_plain, tt), tt)))
+certificate_plain c = (
+  (precond_plain, (one_plain, tt)),
+  (
+    (graph_plain, counts_plain (c.points ∷ c.edges ∷ c.variables ∷ [])),
+    both_plain (flat_map (alternative_lines c.variables) c.alternatives) ((codes "end" ∷ []) ∷ []) (flat_plain (alternative_lines c.variables) (alternative_lines_plain c.variables) c.alternatives) ((end_plain, tt), tt),
+  ),
+)

@@ -107,12 +107,13 @@ module _ (v : ℕ) (most : v ≤ VARIABLES) where
       let range = and_is (in_range (integer_of c)) (list_all in_range zs) g in
       let long : length zs ≡ v = length-map ws integer_of ∙ (numerals_of_integers v ws both.1).1 in
       let sum = length-append zs (replicate (VARIABLES - v) (pos 0)) in
-      let zeros = length-replicate {A = ℤ} (VARIABLES - v) (pos 0) in
-      (record {
-        wide = omega arith;
-        in_range = (ltb-true (unsigned_abs (integer_of c)) (2 ^ 127) range.0, range_of_both zs (replicate (VARIABLES - v) (pos 0)) (all_in_range zs range.1) (range_of_zeros (VARIABLES - v)));
-      },
-      λ k past. zero_behind zs (VARIABLES - v) k (omega arith))
+      let zeros = length-replicate {A = ℤ} (VARIABLES - v) (pos 0) in (
+        record {
+          wide = omega arith;
+          in_range = (ltb-true (unsigned_abs (integer_of c)) (2 ^ 127) range.0, range_of_both zs (replicate (VARIABLES - v) (pos 0)) (all_in_range zs range.1) (range_of_zeros (VARIABLES - v)));
+        },
+        λ k past. zero_behind zs (VARIABLES - v) k (omega arith),
+      )
 
   value_line : (ws : Words) → are_numerals (suc v) ws ≡ true → row_line v (row_value v ws) ≡ ws
   value_line [] h = absurd (cc)

@@ -101,7 +101,7 @@ unfolding certificate_with
 certificate_sound n ls tail c e =
     let s = unread_of n ls tail in
     let first = bind_ok (Unit {0} × Unread) Certificate (read_line {A = Unit {0}} Version (λ _. tt) s)
-        (λ v. read_line Graph sizes_of v.1 >>= (λ z. alternatives_reader z.0 0 ALTERNATIVES z.1 >>= (λ all. whole z.0 all.0 all.1))) c e in
+    (λ v. read_line Graph sizes_of v.1 >>= (λ z. alternatives_reader z.0 0 ALTERNATIVES z.1 >>= (λ all. whole z.0 all.0 all.1))) c e in
     let version = first.0 in
     let second = bind_ok (Sizes × Unread) Certificate (read_line Graph sizes_of version.1) (λ z. alternatives_reader z.0 0 ALTERNATIVES z.1 >>= (λ all. whole z.0 all.0 all.1)) c first.2 in
     let z = second.0 in
@@ -113,15 +113,16 @@ certificate_sound n ls tail c e =
     let two = (line_reads Graph sizes_of graph_line AreWithin sizes_spelled).sound version.1 z.1 z.0 second.1 in
     let three = (alternatives_read z.0 two.0.variables).sound z.1 all.1 all.0 third.1 in
     let taken = taken_both (version_line ∷ []) (graph_line z.0 ∷ alternatives_lines z.0.variables all.0) s version.1 all.1 one.1
-        (taken_both (graph_line z.0 ∷ []) (alternatives_lines z.0.variables all.0) version.1 z.1 all.1 two.1 three.1) in
-    let kept = certificate_is z.0 all.0 two.0 three.0 in
-    (subst IsCertificate is.1 kept.0,
-    subst IsShowable is.1 kept.1,
-    taken.lines
-    ∙ ap (λ rest. map joined (version_line ∷ graph_line z.0 ∷ alternatives_lines z.0.variables all.0) ++ rest) none.0
-    ∙ append-nil (map joined (version_line ∷ graph_line z.0 ∷ alternatives_lines z.0.variables all.0))
-    ∙ ap (λ d. map joined (certificate_lines d)) is.1,
-    taken.tail ∙ none.1)
+    (taken_both (graph_line z.0 ∷ []) (alternatives_lines z.0.variables all.0) version.1 z.1 all.1 two.1 three.1) in
+    let kept = certificate_is z.0 all.0 two.0 three.0 in (
+      subst IsCertificate is.1 kept.0,
+      subst IsShowable is.1 kept.1,
+      taken.lines
+          ∙ ap (λ rest. map joined (version_line ∷ graph_line z.0 ∷ alternatives_lines z.0.variables all.0) ++ rest) none.0
+          ∙ append-nil (map joined (version_line ∷ graph_line z.0 ∷ alternatives_lines z.0.variables all.0))
+          ∙ ap (λ d. map joined (certificate_lines d)) is.1,
+      taken.tail ∙ none.1,
+    )
 
 -- the lines of a certificate are read as that certificate
 pub certificate_complete : (c : Certificate) → IsCertificate c → IsShowable c → (n : ℕ) → certificate_reader (unread_of n (map joined (certificate_lines c)) []) ≡ Ok c
