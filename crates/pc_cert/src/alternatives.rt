@@ -53,7 +53,7 @@ pub fn push_rows(alloc: Global, text: &mut Text, rows: &Rows, names: &Names) -> 
 }
 
 /// Appends the line that says what suffices.
-pub(crate) fn push_line(text: &mut Text, what: &[u8]) -> Result<(), NoMemory>
+fn push_line(text: &mut Text, what: &[u8]) -> Result<(), NoMemory>
     ensures { OnOk result (text.new ≡ text.old ++ line_text what.now) }
 {
     text.push_all(b"suffices: ")?;
@@ -62,7 +62,7 @@ pub(crate) fn push_line(text: &mut Text, what: &[u8]) -> Result<(), NoMemory>
 }
 
 /// Appends the line of an alternative.
-pub(crate) fn push_alternative(
+fn push_alternative(
     alloc: Global,
     text: &mut Text,
     a: &Annotated,

@@ -5,7 +5,6 @@
 
 mod alternatives;
 mod certificate;
-mod entry;
 mod fault;
 mod heads;
 mod laws;
@@ -22,7 +21,6 @@ mod words;
 
 pub use alternatives::{push_rows, show_condition, text_determines_condition};
 pub use certificate::{ALTERNATIVES, Annotated, Certificate, EDGES, POINTS};
-pub use entry::show_condition;
 pub use fault::CertFault;
 pub use laws::{each_text_has_one_answer, text_determines_certificate};
 pub use lengths::texts_are_short;
