@@ -1,7 +1,6 @@
 -- The readers of alternatives read their lines.
-use Rattle.std.proofs.Common.{◌≡◌, ◌∙◌, refl, ap, sym, subst, ℕ, zero, suc, ◌+◌, ◌<◌, ◌≤◌, ltb, Bool, true, false, cond, not, List, [], ◌∷◌, ◌++◌, length, map, append_assoc, Result, Ok, Err, arith}
+use Rattle.std.proofs.Common.{◌≡◌, ◌∙◌, refl, ap, sym, subst, ℕ, ◌<◌, ◌≤◌, ltb, Bool, true, false, cond, not, List, [], ◌∷◌, ◌++◌, map, Ok, arith}
 use Rattle.std.specs.Prelude.{◌||◌, codes}
-use Rattle.std.specs.List.{AllByRecursion, flat_map}
 use Rattle.std.proofs.lemmas.Bool.{lt-ltb}
 use borrow.Author.Tests.{ltb-true}
 use Rattle.pc_rows.specs.declared.row.TheConstants.{VARIABLES}
@@ -13,20 +12,18 @@ use Rattle.pc_text.specs.Bytes.{Bytes}
 use Rattle.pc_cert.specs.declared.certificate.Annotated.{Annotated}
 use Rattle.pc_cert.specs.declared.certificate.Sizes.{Sizes}
 use Rattle.pc_cert.specs.declared.certificate.TheConstants.{ALTERNATIVES}
-use Rattle.pc_cert.specs.declared.fault.CertFault.{CertFault}
-use Rattle.pc_cert.specs.Words.{Words, is_word, number_at}
+use Rattle.pc_cert.specs.Words.{Words, is_word}
 use Rattle.pc_cert.specs.Faults.{Row, Point, Edge, Next, Proof as ProofLine}
-use Rattle.pc_cert.specs.Readers.{◌>>=◌, Unread, Reader, repeated, row_value, proof_value, row_reader, point_reader, proof_reader, edge_reader, annotated_reader, goes_on, begins, alternatives_reader}
-use Rattle.pc_cert.specs.CertificateTexts.{counts, row_line, proof_line, point_lines, edge_lines, numbered, alternative_lines}
+use Rattle.pc_cert.specs.Readers.{◌>>=◌, Unread, repeated, row_value, proof_value, row_reader, point_reader, proof_reader, edge_reader, annotated_reader, goes_on, begins}
+use Rattle.pc_cert.specs.CertificateTexts.{counts, row_line, proof_line, point_lines, edge_lines, numbered}
 use Rattle.pc_cert.proofs.WordLists.{joined, word_is}
-use Rattle.pc_cert.proofs.Numerals.{and_is}
 use Rattle.pc_cert.proofs.PlainWords.{IsPlain, ArePlain}
 use Rattle.pc_cert.proofs.Spelled.{IsSpelled}
 use Rattle.pc_cert.proofs.RowSpelling.{IsRowOver, row_spelled}
 use Rattle.pc_cert.proofs.ProofSpelling.{proof_spelled}
 use Rattle.pc_cert.proofs.HeadSpelling.{point_spelled, edge_spelled}
 use Rattle.pc_cert.proofs.LineReading.{unread_of, AreTaken, ReadsLines, ok_same, give, line_reads}
-use Rattle.pc_cert.proofs.ListReading.{bind_ok, taken_none, taken_both, lines_both, AreGood, AreFew, repeated_reads, headed_reads}
+use Rattle.pc_cert.proofs.ListReading.{bind_ok, taken_both, lines_both, AreGood, AreFew, repeated_reads, headed_reads}
 
 -- ---- points and edges
 

@@ -1,5 +1,5 @@
 -- The reader of certificates finds the fault of a text that is none.
-use Rattle.std.proofs.Common.{◌≡◌, ◌∙◌, refl, ap, sym, subst, ℕ, zero, suc, ◌+◌, ◌<◌, Bool, true, false, cond, not, List, [], ◌∷◌, ◌++◌, append_assoc, Option, Some, None, Result, Ok, Err, arith}
+use Rattle.std.proofs.Common.{◌≡◌, ◌∙◌, refl, ap, sym, ℕ, zero, suc, ◌+◌, ◌<◌, Bool, true, false, cond, not, List, [], ◌∷◌, ◌++◌, append_assoc, Option, Some, None, Result, Ok, Err, arith}
 use Rattle.std.specs.Prelude.{◌&&◌, codes}
 use Rattle.pc_text.specs.Bytes.{Bytes}
 use Rattle.pc_rows.specs.Linear.{Linear}
@@ -10,7 +10,7 @@ use Rattle.pc_cert.specs.declared.certificate.TheConstants.{ALTERNATIVES}
 use Rattle.pc_cert.specs.declared.fault.CertFault.{CertFault}
 use Rattle.pc_cert.specs.declared.fault.CertFault.TheVariants as fault
 use Rattle.pc_cert.specs.Certificate.{Certificate}
-use Rattle.pc_cert.specs.Words.{Words, is_empty, is_word}
+use Rattle.pc_cert.specs.Words.{is_empty, is_word}
 use Rattle.pc_cert.specs.Faults.{Wanted, Version, Graph, Next, Point, Edge, sizes_of, in_order, alternative}
 use Rattle.pc_cert.specs.Readers.{◌>>=◌, Unread, read_line, repeated, point_reader, edge_reader, annotated_reader, goes_on, begins, alternatives_reader, is_over, whole, certificate_reader}
 use Rattle.pc_cert.proofs.LineReading.{unread_of, give}

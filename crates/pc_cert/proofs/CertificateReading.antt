@@ -1,25 +1,19 @@
 -- The reader of certificates reads their lines.
-use Rattle.std.proofs.Common.{◌≡◌, ◌∙◌, refl, ap, sym, subst, ℕ, zero, suc, ◌+◌, ◌<◌, ◌≤◌, Bool, true, false, cond, List, [], ◌∷◌, ◌++◌, length, map, append_assoc, Result, Ok, Err, arith}
-use Rattle.std.specs.Prelude.{◌&&◌, codes}
-use Rattle.std.specs.List.{AllByRecursion, flat_map}
-use Rattle.std.proofs.lemmas.List.{append-nil, map-append}
+use Rattle.std.proofs.Common.{◌≡◌, ◌∙◌, refl, ap, sym, subst, ℕ, zero, suc, ◌+◌, ◌<◌, ◌≤◌, Bool, true, false, cond, List, [], ◌∷◌, ◌++◌, map, append_assoc, Result, Ok, arith}
+use Rattle.std.specs.Prelude.{codes}
+use Rattle.std.specs.List.{flat_map}
 use Rattle.pc_text.specs.Bytes.{Bytes}
 use Rattle.pc_rows.specs.declared.row.TheConstants.{VARIABLES}
 use Rattle.pc_cert.specs.declared.certificate.Annotated.{Annotated}
 use Rattle.pc_cert.specs.declared.certificate.Sizes.{Sizes}
 use Rattle.pc_cert.specs.declared.certificate.TheConstants.{ALTERNATIVES}
 use Rattle.pc_cert.specs.declared.fault.CertFault.{CertFault}
-use Rattle.pc_cert.specs.declared.fault.CertFault.TheVariants as fault
-use Rattle.pc_cert.specs.Certificate.{Certificate}
-use Rattle.pc_cert.specs.Words.{Words, is_empty}
-use Rattle.pc_cert.specs.Faults.{Version, Graph, sizes_of}
-use Rattle.pc_cert.specs.Readers.{◌>>=◌, Unread, Reader, read_line, annotated_reader, begins, alternatives_reader, is_over, whole, certificate_reader}
-use Rattle.pc_cert.specs.CertificateTexts.{version_line, point_lines, edge_lines, numbered, alternative_lines, certificate_lines}
+use Rattle.pc_cert.specs.Words.{Words}
+use Rattle.pc_cert.specs.Readers.{◌>>=◌, Unread, annotated_reader, begins, alternatives_reader}
+use Rattle.pc_cert.specs.CertificateTexts.{point_lines, edge_lines, numbered, alternative_lines}
 use Rattle.pc_cert.proofs.WordLists.{joined}
-use Rattle.pc_cert.proofs.Numerals.{and_is, empty_is}
-use Rattle.pc_cert.proofs.HeadSpelling.{AreWithin, graph_line, version_spelled, sizes_spelled}
-use Rattle.pc_cert.proofs.LineReading.{unread_of, AreTaken, ReadsLines, ok_same, give, line_reads}
-use Rattle.pc_cert.proofs.ListReading.{bind_ok, taken_none, taken_both, lines_both, AreFew}
+use Rattle.pc_cert.proofs.LineReading.{unread_of, AreTaken, ReadsLines, ok_same, give}
+use Rattle.pc_cert.proofs.ListReading.{bind_ok, taken_both, lines_both, AreFew}
 use Rattle.pc_cert.proofs.AlternativeReading.{IsWhole, annotated_reads, next_line, begins_reads}
 
 -- ---- alternatives, and the end

@@ -1,17 +1,16 @@
 -- The counts behind a name are read exactly where the line has them.
-use Rattle.std.proofs.Common.{◌≡◌, ◌∙◌, refl, ap, sym, ℕ, suc, ◌-◌, ◌^◌, ◌<◌, ◌≤◌, min, Bool, true, false, cond, leb, eqb, [], ◌∷◌, Option, Some, None, Ok, Err, lit<, arith}
+use Rattle.std.proofs.Common.{◌≡◌, ◌∙◌, refl, ap, sym, ℕ, ◌-◌, ◌^◌, ◌<◌, ◌≤◌, min, Bool, true, false, cond, leb, eqb, [], ◌∷◌, Option, Some, None, Ok, Err, lit<, arith}
 use Rattle.std.specs.Prelude.{◌&&◌, bytes_eq, option_map, codes}
 use Rattle.std.proofs.lemmas.Bool.{le-leb, eq-eqb}
 use Rattle.std.proofs.lemmas.Bool.Decides.{nat_tests}
 use Rattle.pc_text.specs.Bytes.{Bytes}
-use Rattle.pc_text.specs.Digits.{natural_of}
 use Rattle.pc_rows.specs.declared.row.TheConstants.{VARIABLES}
 use Rattle.pc_cert.specs.declared.certificate.TheConstants.{POINTS, EDGES}
 use Rattle.pc_cert.specs.declared.fault.CertFault.TheVariants as fault
-use Rattle.pc_cert.specs.Words.{Words, is_empty, is_count, are_counts, is_named, number_at, count_of}
+use Rattle.pc_cert.specs.Words.{Words, is_empty, is_count, are_counts, is_named, number_at}
 use Rattle.pc_cert.specs.Faults.{Wanted, Graph, sizes_of, are_within, has_form, keeps_rules}
 use Rattle.pc_cert.specs.Readers.{line_value, head_value}
-use Rattle.pc_cert.specs.Counts.{◌>>=◌, behind, next_count, two_counts, three_counts}
+use Rattle.pc_cert.specs.Counts.{◌>>=◌, next_count, two_counts, three_counts}
 
 -- the number of a word, or the greatest of the code where that is less
 abbrev pub capped : ℕ → Words → ℕ

@@ -1,22 +1,13 @@
 -- A reader finds the fault of the first line that is not as it is wanted.
-use Rattle.std.proofs.Common.{◌≡◌, ◌∙◌, refl, ap, sym, subst, ℕ, zero, suc, ◌+◌, ◌<◌, ltb, Bool, true, false, cond, not, List, [], ◌∷◌, ◌++◌, replicate, append_assoc, Option, Some, None, Result, Ok, Err, arith}
-use Rattle.std.specs.Prelude.{◌&&◌, ◌||◌, codes}
-use Rattle.std.proofs.lemmas.List.{append-nil}
-use borrow.Author.Tests.{ltb-true}
+use Rattle.std.proofs.Common.{◌≡◌, ◌∙◌, refl, ap, sym, ℕ, zero, suc, ◌+◌, List, [], ◌∷◌, ◌++◌, replicate, Option, Some, None, Result, Ok, Err}
 use Rattle.pc_text.specs.Bytes.{Bytes}
 use Rattle.pc_rows.specs.Linear.{Linear}
 use Rattle.pc_rows.specs.Evidence.{Proof}
-use Rattle.pc_cert.specs.declared.certificate.Annotated.{Annotated}
-use Rattle.pc_cert.specs.declared.certificate.Sizes.{Sizes}
-use Rattle.pc_cert.specs.declared.certificate.TheConstants.{ALTERNATIVES}
 use Rattle.pc_cert.specs.declared.fault.CertFault.{CertFault}
-use Rattle.pc_cert.specs.declared.fault.CertFault.TheVariants as fault
-use Rattle.pc_cert.specs.Certificate.{Certificate}
-use Rattle.pc_cert.specs.Words.{Words, words, is_empty, is_word, number_at}
-use Rattle.pc_cert.specs.Faults.{Wanted, Version, Graph, Next, Point, Row, Edge, Proof as ProofLine, sizes_of, in_order, alternative, brings, line_fault, or_else, fault_from}
-use Rattle.pc_cert.specs.Readers.{◌>>=◌, Unread, Reader, unless_fault, read_line, repeated, row_value, proof_value, row_reader, point_reader, proof_reader, edge_reader, annotated_reader, goes_on, begins, alternatives_reader, is_over, whole, certificate_reader}
+use Rattle.pc_cert.specs.Words.{Words, words, number_at}
+use Rattle.pc_cert.specs.Faults.{Wanted, Point, Row, Edge, Proof as ProofLine, in_order, brings, line_fault, or_else, fault_from}
+use Rattle.pc_cert.specs.Readers.{◌>>=◌, Unread, Reader, unless_fault, read_line, repeated, row_value, proof_value, row_reader, point_reader, proof_reader, edge_reader}
 use Rattle.pc_cert.proofs.LineReading.{unread_of, give}
-use Rattle.pc_cert.proofs.AlternativeReading.{begins_reads}
 
 -- the fault of what is left
 abbrev pub fault_in : List Wanted → Unread → Option CertFault

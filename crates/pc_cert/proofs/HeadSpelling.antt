@@ -1,8 +1,8 @@
 -- The lines that tell what follows them spell what they tell.
-use Rattle.std.proofs.Common.{◌≡◌, ◌∙◌, refl, ap, sym, subst, ℕ, zero, suc, ◌+◌, ◌<◌, ◌≤◌, leb, ltb, eqb, Bool, true, false, not, List, [], ◌∷◌, ◌++◌, length, map, arith, ℤ, pos}
-use Rattle.std.specs.Prelude.{◌&&◌, ◌||◌, bytes_eq, codes}
+use Rattle.std.proofs.Common.{◌≡◌, ◌∙◌, refl, ap, sym, subst, ℕ, zero, suc, ◌≤◌, leb, eqb, true, List, [], ◌∷◌, length, map, arith, pos}
+use Rattle.std.specs.Prelude.{◌&&◌, bytes_eq, codes}
 use Rattle.std.specs.List.{AllByRecursion}
-use Rattle.std.proofs.lemmas.Bool.{leb-true, le-leb, lt-ltb, eqb-true, eq-eqb}
+use Rattle.std.proofs.lemmas.Bool.{leb-true, le-leb, eqb-true, eq-eqb}
 use Rattle.std.proofs.lemmas.Slice.Eq.{bytes_eq-Decides}
 use Rattle.pc_rows.specs.declared.row.TheConstants.{VARIABLES}
 use Rattle.pc_rows.specs.declared.rows.TheConstants.{ROWS}
@@ -12,7 +12,7 @@ use Rattle.pc_text.specs.Digits.{natural_of}
 use Rattle.pc_text.specs.Numerals.{numeral}
 use Rattle.pc_cert.specs.declared.certificate.Sizes.{Sizes}
 use Rattle.pc_cert.specs.declared.certificate.TheConstants.{POINTS, EDGES}
-use Rattle.pc_cert.specs.Words.{Words, is_empty, is_count, are_counts, is_named, is_word, number_at}
+use Rattle.pc_cert.specs.Words.{Words, is_count, are_counts, is_named, is_word, number_at}
 use Rattle.pc_cert.specs.Faults.{Version, Graph, Point, Edge, sizes_of, are_within}
 use Rattle.pc_cert.specs.CertificateTexts.{counts, version_line}
 use Rattle.pc_cert.proofs.Numerals.{and_is, empty_is, count_is, natural_count, natural_integer}

@@ -1,5 +1,5 @@
 -- A line that is read word by word says what its words say, or has their fault.
-use Rattle.std.proofs.Common.{◌≡◌, ◌∙◌, refl, ap, sym, ℕ, zero, suc, ◌+◌, ◌-◌, ◌≤◌, Bool, true, false, cond, List, [], ◌∷◌, ◌++◌, length, map, replicate, Option, Some, None, Result, Ok, Err, ℤ, pos, append_assoc, length-append, arith}
+use Rattle.std.proofs.Common.{◌≡◌, ◌∙◌, refl, ap, sym, ℕ, zero, suc, ◌+◌, ◌-◌, ◌≤◌, Bool, true, false, cond, List, [], ◌∷◌, ◌++◌, length, map, replicate, Some, None, Result, Ok, Err, ℤ, pos, append_assoc, length-append, arith}
 use Rattle.std.proofs.Math.Seq.{set-append_seam}
 use Rattle.std.proofs.lemmas.List.{append-nil, length-map}
 use Rattle.std.specs.Prelude.{◌&&◌}
@@ -13,13 +13,12 @@ use Rattle.pc_text.specs.Digits.{natural_of}
 use Rattle.pc_text.specs.Numerals.{integer_of}
 use Rattle.pc_cert.specs.declared.fault.CertFault.{CertFault}
 use Rattle.pc_cert.specs.declared.fault.CertFault.TheVariants as fault
-use Rattle.pc_cert.specs.declared.words.Word.{Word}
 use Rattle.pc_cert.specs.declared.words.Word.TheVariants as word
-use Rattle.pc_cert.specs.Words.{Words, is_empty, is_count, is_numeral, are_numerals, are_pairs, word_of}
+use Rattle.pc_cert.specs.Words.{Words, is_count, is_numeral, are_numerals, are_pairs}
 use Rattle.pc_cert.specs.Faults.{Row, Proof as ProofLine, pairs_keep, part_keeps}
 use Rattle.pc_cert.proofs.Numerals.{and_is}
 use Rattle.pc_cert.specs.Readers.{◌>>=◌, unless_fault, line_value, row_value, parts_value, proof_value}
-use Rattle.pc_cert.specs.LineReaders.{broken, number_by, next_number, row_from, row_of, goal_of, parts_from, proof_of}
+use Rattle.pc_cert.specs.LineReaders.{broken, number_by, row_from, row_of, parts_from, proof_of}
 
 -- a value where the form is kept and the rules are, else the fault of line `n`
 abbrev judged : {A : Type 0} → Bool → Bool → ℕ → A → Result A CertFault

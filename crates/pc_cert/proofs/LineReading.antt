@@ -1,5 +1,5 @@
 -- What it is that a reader reads the lines of a value, and that the next line is read so.
-use Rattle.std.proofs.Common.{◌≡◌, ◌∙◌, refl, ap, sym, subst, ℕ, zero, suc, ◌+◌, Bool, true, false, cond, List, [], ◌∷◌, ◌++◌, map, Option, Some, None, Result, Ok, Err}
+use Rattle.std.proofs.Common.{◌≡◌, ◌∙◌, refl, ap, sym, subst, ℕ, ◌+◌, Bool, true, false, cond, List, [], ◌∷◌, ◌++◌, map, Some, None, Result, Ok}
 use Rattle.pc_text.specs.Bytes.{Bytes}
 use Rattle.pc_cert.specs.declared.fault.CertFault.{CertFault}
 use Rattle.pc_cert.specs.declared.fault.CertFault.TheVariants as fault
@@ -7,7 +7,7 @@ use Rattle.pc_cert.specs.Words.{Words, words}
 use Rattle.pc_cert.specs.Faults.{Wanted, has_form, keeps_rules}
 use Rattle.pc_cert.specs.Readers.{◌>>=◌, Unread, Reader, unless_fault, line_value, read_line}
 use Rattle.pc_cert.proofs.WordLists.{joined, line_of_words}
-use Rattle.pc_cert.proofs.PlainWords.{ArePlain, words_of_line}
+use Rattle.pc_cert.proofs.PlainWords.{words_of_line}
 use Rattle.pc_cert.proofs.Spelled.{IsSpelled}
 
 abbrev pub unread_of : ℕ → List Bytes → Bytes → Unread

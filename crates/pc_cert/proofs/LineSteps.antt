@@ -1,7 +1,6 @@
 -- A word more of a line that is read word by word.
-use Rattle.std.proofs.Common.{◌≡◌, ◌∙◌, refl, ap, sym, subst, ℕ, zero, suc, ◌+◌, ◌-◌, ◌^◌, ◌<◌, ◌≤◌, min, Bool, true, false, not, cond, leb, ltb, List, [], ◌∷◌, ◌++◌, length, Option, Some, None, Result, Ok, Err, ℤ, arith}
+use Rattle.std.proofs.Common.{◌≡◌, ◌∙◌, refl, ap, sym, ℕ, suc, ◌+◌, ◌-◌, ◌^◌, ◌<◌, min, Bool, true, false, not, cond, leb, ltb, ◌∷◌, Some, None, Ok, Err, ℤ, arith}
 use Rattle.std.specs.Prelude.{◌&&◌}
-use Rattle.std.proofs.lemmas.Bool.{leb-true}
 use Rattle.std.proofs.lemmas.Bool.Decides.{nat_tests}
 use Rattle.pc_rows.specs.declared.proof.Part.{Part}
 use Rattle.pc_rows.specs.declared.system.TheConstants.{PREMISES}
@@ -15,7 +14,7 @@ use Rattle.pc_cert.specs.declared.words.Word.TheVariants as word
 use Rattle.pc_cert.specs.Words.{Words, is_count, is_numeral, are_numerals, are_pairs, count_of, word_of}
 use Rattle.pc_cert.specs.Readers.{◌>>=◌}
 use Rattle.pc_cert.specs.Faults.{part_keeps}
-use Rattle.pc_cert.specs.LineReaders.{next_number, row_from, broken, part_of, next_part, parts_from}
+use Rattle.pc_cert.specs.LineReaders.{next_number, row_from, broken, part_of, next_part}
 
 one_less : (n i : ℕ) → i < n → n - i ≡ suc (n - (i + 1))
 one_less n i h = omega arith

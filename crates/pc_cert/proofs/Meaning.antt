@@ -1,25 +1,25 @@
 -- What is read of a text is what it means, and nothing else is.
-use Rattle.std.proofs.Common.{◌≡◌, ◌∙◌, refl, ap, sym, subst, inl, inr, ◌⊎◌, ℕ, ◌+◌, eqb, List, [], ◌∷◌, ◌++◌, length, map, append_assoc, Option, Some, None, Result, Ok, Err, arith}
-use Rattle.std.specs.List.{AllByRecursion, slice_split, count_by, flat_map, join_with_byte}
+use Rattle.std.proofs.Common.{◌≡◌, ◌∙◌, refl, ap, sym, subst, inl, inr, ◌⊎◌, ℕ, ◌+◌, List, [], ◌∷◌, ◌++◌, length, map, append_assoc, Some, None, Result, Ok, Err, arith}
+use Rattle.std.specs.List.{slice_split, count_by, flat_map, join_with_byte}
 use Rattle.std.proofs.lemmas.List.{append-nil}
 use Rattle.std.proofs.lemmas.List.Folds.{flat_map-map}
 use Rattle.std.proofs.lemmas.List.Splits.{join_with_byte-slice_split, length-slice_split}
 use Rattle.pc_text.specs.Bytes.{Bytes}
 use Rattle.pc_text.specs.Places.{is_line_feed}
 use Rattle.pc_cert.specs.declared.fault.CertFault.{CertFault}
-use Rattle.pc_cert.specs.Certificate.{Certificate, IsShowable, IsCertificate}
+use Rattle.pc_cert.specs.Certificate.{Certificate}
 use Rattle.pc_cert.specs.Words.{Words}
 use Rattle.pc_cert.specs.Faults.{all_but_last, last_of, ended_lines, tail_of, fault_of}
 use Rattle.pc_cert.specs.Readers.{Unread, unread, certificate_reader, certificate_of}
-use Rattle.pc_cert.specs.CertificateTexts.{certificate_lines, certificate_text, line_text, lines_text, IsTextOf}
-use Rattle.pc_cert.specs.Answers.{Unless, Gives, Means, TextDeterminesCertificate, EachTextHasOneAnswer}
+use Rattle.pc_cert.specs.CertificateTexts.{certificate_lines, certificate_text, lines_text, IsTextOf}
+use Rattle.pc_cert.specs.Answers.{Gives, Means, TextDeterminesCertificate, EachTextHasOneAnswer}
 use Rattle.pc_cert.proofs.WordLists.{joined}
-use Rattle.pc_cert.proofs.PlainWords.{IsPlain, lines_of_text}
+use Rattle.pc_cert.proofs.PlainWords.{lines_of_text}
 use Rattle.pc_cert.proofs.LineReading.{unread_of}
 use Rattle.pc_cert.proofs.WholeReading.{certificate_sound, certificate_complete}
 use Rattle.pc_cert.proofs.PlainLines.{certificate_plain}
 use Rattle.pc_cert.proofs.CertificateFaults.{fault_in_answer, certificate_finds}
-use Rattle.pc_cert.proofs.Told.{unless_then, gives_same}
+use Rattle.pc_cert.proofs.Told.{unless_then}
 
 -- ---- a text is its lines
 

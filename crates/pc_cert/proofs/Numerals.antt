@@ -1,8 +1,8 @@
 -- The tests for numerals say what is meant, and a word that is one is read whole.
-use Rattle.std.proofs.Common.{◌≡◌, ◌∙◌, refl, ap, sym, subst, ℕ, zero, suc, ◌+◌, ◌<◌, ◌≤◌, eqb, leb, ltb, Bool, true, false, cond, List, [], ◌∷◌, ◌++◌, Option, Some, None, length, length-append, take, drop, arith, ℤ, pos, negsuc, inl, inr, ◌⊎◌, ◌^◌}
-use Rattle.std.specs.Prelude.{◌&&◌, if◌then◌else◌, unsigned_abs, neg_ℤ}
+use Rattle.std.proofs.Common.{◌≡◌, ◌∙◌, refl, ap, sym, subst, ℕ, ◌<◌, ◌≤◌, eqb, leb, Bool, true, false, cond, List, [], ◌∷◌, ◌++◌, Some, None, length, length-append, arith, ℤ, pos, inl, inr, ◌^◌}
+use Rattle.std.specs.Prelude.{◌&&◌, unsigned_abs, neg_ℤ}
 use Rattle.std.specs.List.{list_all}
-use Rattle.std.proofs.lemmas.Bool.{le-leb, leb-true, lt-ltb, le-ltb, eqb-true}
+use Rattle.std.proofs.lemmas.Bool.{le-leb, leb-true, eqb-true}
 use Rattle.std.proofs.lemmas.List.{append-nil}
 use borrow.Author.Tests.{ltb-true, ltb-false}
 use Rattle.pc_rows.specs.Linear.{in_range, InRange}
@@ -10,9 +10,8 @@ use Rattle.pc_text.specs.declared.token.TheConstants.{LARGEST}
 use Rattle.pc_text.specs.Bytes.{Bytes}
 use Rattle.pc_text.specs.Digits.{natural_of}
 use Rattle.pc_text.specs.Lexemes.{in_number, EachPasses}
-use Rattle.pc_text.specs.Numerals.{IsPositive, IsNumeral, integer_of, numeral, IsInRange, Reads, NoDigitNext, IsLongestNumeral}
+use Rattle.pc_text.specs.Numerals.{IsPositive, IsNumeral, integer_of, numeral, IsInRange, Reads, IsLongestNumeral}
 use Rattle.pc_text.proofs.NumeralTexts.{numeral_is, integer_numeral, numeral_integer}
-use Rattle.pc_cert.specs.declared.words.Word.{Word}
 use Rattle.pc_cert.specs.declared.words.Word.TheVariants as word
 use Rattle.pc_cert.specs.Words.{is_empty, is_positive, is_count, is_numeral, word_of}
 use Rattle.pc_cert.proofs.Decimals.{decimal_begins, IsDigit}

@@ -1,17 +1,16 @@
 -- Words without spaces and line feeds, and the lines and texts that they make.
-use Rattle.std.proofs.Common.{◌≡◌, ◌∙◌, refl, ap, sym, subst, ℕ, zero, suc, ◌+◌, ◌<◌, ◌≤◌, eqb, Bool, true, false, not, List, [], ◌∷◌, ◌++◌, map, append_assoc, arith, ℤ, pos, negsuc}
+use Rattle.std.proofs.Common.{◌≡◌, ◌∙◌, refl, ap, sym, subst, ℕ, zero, suc, ◌≤◌, eqb, false, not, List, [], ◌∷◌, ◌++◌, map, append_assoc, arith, ℤ, pos, negsuc}
 use Rattle.std.specs.Prelude.{codes}
-use Rattle.std.specs.List.{AllByRecursion, All, slice_split, flat_map}
+use Rattle.std.specs.List.{AllByRecursion, All, flat_map}
 use Rattle.std.proofs.lemmas.Bool.{ne_eqb}
 use Rattle.std.proofs.lemmas.List.{append-nil}
 use Rattle.std.proofs.lemmas.List.Splits.{slice_split_at, slice_split_none}
 use Rattle.pc_text.specs.Bytes.{Bytes}
 use Rattle.pc_text.specs.Numerals.{numeral}
-use Rattle.pc_text.specs.Places.{is_line_feed}
 use Rattle.pc_text.specs.Lexemes.{in_line, EachPasses}
 use Rattle.pc_cert.specs.Words.{Words, is_space, words, is_empty}
 use Rattle.pc_cert.specs.Faults.{ended_lines, tail_of}
-use Rattle.pc_cert.specs.CertificateTexts.{line_text, lines_text}
+use Rattle.pc_cert.specs.CertificateTexts.{lines_text}
 use Rattle.pc_cert.proofs.Decimals.{decimal_digits}
 use Rattle.pc_cert.proofs.EndedLines.{line_on}
 use Rattle.pc_cert.proofs.Splits.{each_weaker, each-append}

@@ -1,5 +1,5 @@
 -- A line of a goal's multiplier and pairs spells a proof.
-use Rattle.std.proofs.Common.{◌≡◌, ◌≢◌, ◌∙◌, refl, ap, sym, subst, ℕ, zero, suc, ◌+◌, ◌<◌, ◌≤◌, ◌^◌, leb, ltb, Bool, true, false, not, List, [], ◌∷◌, ◌++◌, length, arith, ℤ, pos, negsuc}
+use Rattle.std.proofs.Common.{◌≡◌, ◌≢◌, ◌∙◌, refl, ap, ℕ, zero, suc, ◌+◌, ◌<◌, ◌≤◌, ◌^◌, leb, ltb, true, not, List, [], ◌∷◌, arith, ℤ, pos, negsuc}
 use Rattle.std.specs.Prelude.{unsigned_abs, ◌&&◌}
 use Rattle.std.specs.List.{AllByRecursion, flat_map}
 use Rattle.std.proofs.lemmas.Bool.{leb-true, le-leb, lt-ltb, ne_eqb}
@@ -12,13 +12,13 @@ use Rattle.pc_text.specs.Bytes.{Bytes}
 use Rattle.pc_text.specs.Digits.{natural_of}
 use Rattle.pc_text.specs.Numerals.{numeral, integer_of}
 use Rattle.pc_text.proofs.NumeralTexts.{integer_numeral}
-use Rattle.pc_cert.specs.Words.{Words, is_empty, is_count, is_numeral, are_pairs}
+use Rattle.pc_cert.specs.Words.{Words, is_count, is_numeral, are_pairs}
 use Rattle.pc_cert.specs.Faults.{Proof as ProofLine, has_form, keeps_rules, part_keeps, pairs_keep}
 use Rattle.pc_cert.specs.Readers.{parts_value, proof_value}
 use Rattle.pc_cert.specs.CertificateTexts.{proof_line}
 use Rattle.pc_cert.proofs.Numerals.{and_is, numeral_of, integer_is_numeral, count_is, natural_count, natural_integer}
 use Rattle.pc_cert.proofs.PartSteps.{not_zero}
-use Rattle.pc_cert.proofs.PlainWords.{IsPlain, ArePlain, numeral_plain}
+use Rattle.pc_cert.proofs.PlainWords.{IsPlain, numeral_plain}
 use Rattle.pc_cert.proofs.RowSpelling.{in_range_of}
 use Rattle.pc_cert.proofs.Spelled.{IsSpelled}
 

@@ -1,5 +1,5 @@
 -- An alternative more.
-use Rattle.std.proofs.Common.{◌≡◌, ◌∙◌, refl, ap, sym, subst, ℕ, zero, suc, ◌+◌, ◌-◌, ◌<◌, ◌≤◌, Bool, true, false, cond, List, [], ◌∷◌, ◌++◌, length, Result, Ok, Err, append_assoc, arith}
+use Rattle.std.proofs.Common.{◌≡◌, ◌∙◌, refl, ap, sym, ℕ, zero, suc, ◌+◌, Bool, true, false, cond, List, [], ◌∷◌, ◌++◌, Result, Ok, Err, append_assoc}
 use Rattle.std.specs.Result.{is_err}
 use Rattle.pc_rows.specs.declared.rows.RowsFault.{RowsFault}
 use Rattle.pc_rows.specs.declared.rows.RowsFault.TheVariants.{Full, NoMemory}

@@ -1,21 +1,20 @@
 -- A line of numerals spells a row.
-use Rattle.std.proofs.Common.{◌≡◌, ◌∙◌, refl, ap, sym, subst, ℕ, zero, suc, ◌+◌, ◌-◌, ◌<◌, ◌≤◌, ◌^◌, ltb, Bool, true, false, List, [], ◌∷◌, ◌++◌, length, map, take, replicate, get_or, length-append, length-take-le, lit<, arith, ℤ, pos}
-use Rattle.std.specs.Prelude.{unsigned_abs, ◌&&◌}
-use Rattle.std.specs.List.{AllByRecursion, list_all}
+use Rattle.std.proofs.Common.{◌≡◌, ◌∙◌, refl, ap, sym, ℕ, zero, suc, ◌-◌, ◌≤◌, ◌^◌, true, List, [], ◌∷◌, ◌++◌, length, map, take, replicate, get_or, length-append, length-take-le, lit<, arith, ℤ, pos}
+use Rattle.std.specs.Prelude.{unsigned_abs}
+use Rattle.std.specs.List.{list_all}
 use Rattle.std.proofs.lemmas.Bool.{lt-ltb}
 use Rattle.std.proofs.lemmas.List.{length-map, length-replicate}
 use borrow.Author.Tests.{ltb-true}
 use Rattle.pc_rows.specs.declared.row.TheConstants.{VARIABLES}
-use Rattle.pc_rows.specs.Linear.{Linear, InRange, AllInRange, in_range, coefficient, IsOver, IsRow}
-use Rattle.pc_text.specs.Bytes.{Bytes}
+use Rattle.pc_rows.specs.Linear.{Linear, InRange, AllInRange, in_range, IsOver, IsRow}
 use Rattle.pc_text.specs.Numerals.{numeral, integer_of}
 use Rattle.pc_text.proofs.NumeralTexts.{integer_numeral}
-use Rattle.pc_cert.specs.Words.{Words, is_empty, is_numeral, are_numerals}
-use Rattle.pc_cert.specs.Faults.{Row, has_form, keeps_rules}
+use Rattle.pc_cert.specs.Words.{Words, is_numeral, are_numerals}
+use Rattle.pc_cert.specs.Faults.{Row}
 use Rattle.pc_cert.specs.Readers.{row_value}
 use Rattle.pc_cert.specs.CertificateTexts.{row_line}
 use Rattle.pc_cert.proofs.Numerals.{and_is, empty_is, numeral_of, integer_is_numeral}
-use Rattle.pc_cert.proofs.PlainWords.{IsPlain, ArePlain, numeral_plain, numerals_plain}
+use Rattle.pc_cert.proofs.PlainWords.{numerals_plain}
 use Rattle.pc_cert.proofs.Spelled.{IsSpelled}
 
 -- ---- numerals and their numbers

@@ -1,5 +1,5 @@
 -- Lines of certificates, a word, a line or a part more.
-use Rattle.std.proofs.Common.{◌≡◌, ◌∙◌, refl, ap, sym, subst, ℕ, zero, suc, ◌+◌, ◌-◌, ◌<◌, ◌≤◌, List, [], ◌∷◌, ◌++◌, length, map, take, get_or, ℤ, pos, append_assoc, Result, Ok, Err, arith}
+use Rattle.std.proofs.Common.{◌≡◌, ◌∙◌, ap, sym, subst, ℕ, ◌+◌, ◌<◌, List, [], ◌∷◌, ◌++◌, length, map, take, get_or, ℤ, pos, append_assoc, Result, Ok, Err, arith}
 use Rattle.std.specs.Prelude.{codes, OnOk}
 use Rattle.std.specs.List.{AllByRecursion, flat_map}
 use Rattle.std.proofs.lemmas.List.{append-nil, map-append, map_more, take_more, length-take-le}
@@ -10,7 +10,7 @@ use Rattle.pc_rows.specs.declared.proof.Part.{Part}
 use Rattle.pc_rows.specs.Linear.{Linear}
 use Rattle.pc_rows.proofs.Joining.{each_join}
 use Rattle.pc_cert.specs.Words.{Words}
-use Rattle.pc_cert.specs.CertificateTexts.{row_line, proof_line, line_text, lines_text, numbered, version_line}
+use Rattle.pc_cert.specs.CertificateTexts.{row_line, line_text, lines_text, numbered, version_line}
 use Rattle.pc_cert.proofs.WordLists.{joined}
 
 -- the words of a proof with these parts

@@ -1,5 +1,5 @@
 -- What it is that a line spells a value.
-use Rattle.std.proofs.Common.{◌≡◌, Bool, true}
+use Rattle.std.proofs.Common.{◌≡◌, true}
 use Rattle.pc_cert.specs.Words.{Words}
 use Rattle.pc_cert.specs.Faults.{Wanted, has_form, keeps_rules}
 use Rattle.pc_cert.proofs.PlainWords.{ArePlain}

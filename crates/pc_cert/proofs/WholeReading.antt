@@ -1,31 +1,28 @@
 -- A certificate that is read is the one whose lines the text has.
-use Rattle.std.proofs.Common.{◌≡◌, ◌∙◌, refl, ap, sym, subst, ℕ, ◌+◌, ◌<◌, ◌≤◌, ◌^◌, Bool, true, false, cond, List, [], ◌∷◌, ◌++◌, length, map, append_assoc, Result, Ok, Err, lit<, arith}
-use Rattle.std.specs.Prelude.{◌&&◌, codes}
-use Rattle.std.specs.List.{AllByRecursion, flat_map}
-use Rattle.std.proofs.lemmas.List.{append-nil, map-append}
-use Rattle.pc_rows.specs.declared.row.TheConstants.{VARIABLES}
-use Rattle.pc_rows.specs.declared.rows.TheConstants.{ROWS}
+use Rattle.std.proofs.Common.{◌≡◌, ◌∙◌, refl, ap, sym, subst, ℕ, ◌≤◌, Bool, true, false, cond, List, [], ◌∷◌, ◌++◌, length, map, Ok, Err, arith}
+use Rattle.std.specs.Prelude.{◌&&◌}
+use Rattle.std.specs.List.{AllByRecursion}
+use Rattle.std.proofs.lemmas.List.{append-nil}
 use Rattle.pc_rows.specs.declared.system.TheConstants.{PREMISES}
 use Rattle.pc_rows.specs.Linear.{Linear, IsRow, IsOver}
 use Rattle.pc_rows.specs.Joins.{IsRows}
-use Rattle.pc_rows.specs.Evidence.{Proof, IsProof}
+use Rattle.pc_rows.specs.Evidence.{IsProof}
 use Rattle.pc_text.specs.Bytes.{Bytes}
 use Rattle.pc_cert.specs.declared.certificate.Annotated.{Annotated}
 use Rattle.pc_cert.specs.declared.certificate.Sizes.{Sizes}
 use Rattle.pc_cert.specs.declared.certificate.TheConstants.{ALTERNATIVES}
-use Rattle.pc_cert.specs.declared.fault.CertFault.{CertFault}
 use Rattle.pc_cert.specs.declared.fault.CertFault.TheVariants as fault
 use Rattle.pc_cert.specs.Certificate.{Certificate, IsAnnotation, IsShowable, IsAnnotated, IsCertificate}
-use Rattle.pc_cert.specs.Words.{Words, is_empty}
+use Rattle.pc_cert.specs.Words.{is_empty}
 use Rattle.pc_cert.specs.Faults.{Version, Graph, sizes_of}
 use Rattle.pc_cert.specs.Readers.{◌>>=◌, Unread, read_line, alternatives_reader, whole, certificate_reader}
-use Rattle.pc_cert.specs.CertificateTexts.{version_line, alternative_lines, certificate_lines}
+use Rattle.pc_cert.specs.CertificateTexts.{version_line, certificate_lines}
 use Rattle.pc_cert.proofs.WordLists.{joined}
 use Rattle.pc_cert.proofs.Numerals.{and_is, empty_is}
 use Rattle.pc_cert.proofs.RowSpelling.{IsRowOver}
 use Rattle.pc_cert.proofs.HeadSpelling.{AreWithin, graph_line, version_spelled, sizes_spelled}
-use Rattle.pc_cert.proofs.LineReading.{unread_of, AreTaken, ok_same, line_reads}
-use Rattle.pc_cert.proofs.ListReading.{bind_ok, taken_both, AreGood, AreFew}
+use Rattle.pc_cert.proofs.LineReading.{unread_of, ok_same, line_reads}
+use Rattle.pc_cert.proofs.ListReading.{bind_ok, taken_both, AreFew}
 use Rattle.pc_cert.proofs.AlternativeReading.{IsPoint, IsEdge, IsWhole}
 use Rattle.pc_cert.proofs.CertificateReading.{alternatives_lines, alternatives_read}
 

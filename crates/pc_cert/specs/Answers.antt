@@ -1,5 +1,5 @@
 -- Answers that may want memory.
-use Rattle.std.specs.Prelude.{◌≡◌, ℕ, true, false, Option, Some, None, Result, Ok, Err, ◌⊎◌}
+use Rattle.std.specs.Prelude.{◌≡◌, ℕ, true, false, Some, None, Result, Ok, Err, ◌⊎◌}
 use Rattle.std.specs.Borrow.{Bor}
 use Rattle.pc_text.specs.Bytes.{Bytes}
 use Rattle.pc_cert.specs.declared.fault.CertFault.{CertFault}

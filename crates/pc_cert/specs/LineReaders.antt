@@ -1,10 +1,9 @@
 -- What a line says, read word by word.
-use Rattle.std.specs.Prelude.{ℕ, zero, suc, ◌+◌, ◌==◌, nat_le, nat_lt, ℤ, Bool, true, false, not, ◌&&◌, if◌then◌else◌, List, [], ◌∷◌, ◌++◌, Option, Some, None, Result, Ok, Err, bytes_eq, codes}
+use Rattle.std.specs.Prelude.{ℕ, zero, suc, ◌+◌, nat_le, nat_lt, ℤ, Bool, not, ◌&&◌, if◌then◌else◌, List, [], ◌∷◌, ◌++◌, Option, Some, None, Result, Ok, Err}
 use Rattle.pc_rows.specs.declared.proof.Part.{Part}
 use Rattle.pc_rows.specs.declared.system.TheConstants.{PREMISES}
-use Rattle.pc_rows.specs.Linear.{Linear, in_range, is_zero, of_constant, with_coefficient}
+use Rattle.pc_rows.specs.Linear.{Linear, is_zero, of_constant, with_coefficient}
 use Rattle.pc_rows.specs.Evidence.{Proof}
-use Rattle.pc_text.specs.Bytes.{Bytes}
 use Rattle.pc_text.specs.Digits.{natural_of}
 use Rattle.pc_text.specs.Numerals.{integer_of}
 use Rattle.pc_cert.specs.declared.fault.CertFault.{CertFault}

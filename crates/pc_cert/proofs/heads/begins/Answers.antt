@@ -1,5 +1,5 @@
 use Rattle.std.proofs.Common.{◌≡◌, ◌∙◌, ap, sym, refl, false}
-use Rattle.std.specs.Prelude.{bytes_eq, codes, ◌||◌}
+use Rattle.std.specs.Prelude.{bytes_eq, codes}
 use Rattle.pc_cert.specs.Faults.{Next}
 use Rattle.pc_cert.specs.Words.{words, is_word}
 use Rattle.pc_cert.specs.Readers.{goes_on}

@@ -1,5 +1,4 @@
-use Rattle.std.proofs.Common.{◌≡◌, ◌<◌, ◌≤◌, [], length}
-use Rattle.std.specs.List.{AllByRecursion}
+use Rattle.std.proofs.Common.{◌≡◌, ◌≤◌, [], length}
 use Rattle.pc_rows.specs.declared.system.TheConstants.{PREMISES}
 use Rattle.pc_rows.specs.Evidence.{IsAbove}
 use Rattle.pc_cert.specs.LineReaders.{parts_from}

@@ -1,4 +1,4 @@
-use Rattle.std.proofs.Common.{◌≡◌, ◌++◌, ◌∷◌, [], take, map, length}
+use Rattle.std.proofs.Common.{◌≡◌, ◌++◌, take}
 use Rattle.std.specs.List.{AllByRecursion, flat_map}
 use Rattle.pc_cert.specs.Certificate.{IsAnnotated}
 use Rattle.pc_cert.specs.CertificateTexts.{lines_text, alternative_lines}

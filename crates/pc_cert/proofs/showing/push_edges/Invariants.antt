@@ -1,4 +1,4 @@
-use Rattle.std.proofs.Common.{◌≡◌, ◌++◌, ◌∷◌, [], take, map, length}
+use Rattle.std.proofs.Common.{◌≡◌, ◌++◌, take}
 use Rattle.std.specs.List.{AllByRecursion}
 use Rattle.pc_rows.specs.Evidence.{IsProof}
 use Rattle.pc_cert.specs.CertificateTexts.{lines_text, numbered, edge_lines}

@@ -1,4 +1,4 @@
-use Rattle.std.proofs.Common.{◌≡◌, ◌++◌, ◌∷◌, [], take, map, length}
+use Rattle.std.proofs.Common.{◌≡◌, ◌++◌, take}
 use Rattle.pc_cert.proofs.WordLists.{joined}
 use Rattle.pc_cert.proofs.Shown.{proof_words}
 use Rattle.pc_cert.proofs.showing.push_proof.Given as goal

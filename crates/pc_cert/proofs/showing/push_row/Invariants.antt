@@ -1,4 +1,4 @@
-use Rattle.std.proofs.Common.{◌≡◌, ◌++◌, ◌∷◌, [], take, map, length}
+use Rattle.std.proofs.Common.{◌≡◌, ◌++◌}
 use Rattle.pc_cert.specs.CertificateTexts.{row_line}
 use Rattle.pc_cert.proofs.WordLists.{joined}
 use Rattle.pc_cert.proofs.showing.push_row.Given as goal

@@ -1,4 +1,3 @@
-use Rattle.std.proofs.Common.{sym}
 use Rattle.pc_cert.specs.Words.{words}
 use Rattle.pc_cert.specs.Faults.{Next}
 use Rattle.pc_cert.specs.Readers.{goes_on, line_value}
