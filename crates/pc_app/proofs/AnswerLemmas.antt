@@ -28,7 +28,7 @@ use Rattle.pc_app.specs.Answers.FileAnswers.{IsTooLong, IsShort}
 use Rattle.pc_app.specs.Answers.SourceAnswers.{IsFaulty, IsSpelled}
 use Rattle.pc_app.specs.Answers.ScriptAnswers.{IsNoScript, IsScript}
 use Rattle.pc_app.specs.Answers.CertificateAnswers.{IsNoCertificate, IsCertificate}
-use Rattle.pc_app.specs.Answers.AnalysisAnswers as analysis
+use Rattle.pc_app.specs.Answers.AnalysisAnswers.{IsNotBuilt, IsAnalysed as IsBuilt}
 use Rattle.pc_app.specs.Promises.{OfBytes, IsAnswered}
 
 -- ---- the statuses with which an order is answered
@@ -58,8 +58,8 @@ module _ (status : ℕ) (text : Bytes) where
   certificate_usual A f bytes (IsCertificate c is a) = f c a
 
   analysis_usual : (A : Program → ℕ → Bytes → Type 0) → ((p : Program) → A p status text → Usual status) → (p : Program) → AnalysisAnswers A p status text → Usual status
-  analysis_usual A f p (analysis.IsNotBuilt place loop s t) = usual status (inr (inr (inl s)))
-  analysis_usual A f p (analysis.IsAnalysed none a) = f p a
+  analysis_usual A f p (IsNotBuilt place loop s t) = usual status (inr (inr (inl s)))
+  analysis_usual A f p (IsBuilt none a) = f p a
 
   verdict_usual : (v : Verdict) → status ≡ verdict_status v → Usual status
   verdict_usual (verdict.Violated n p) s = usual status (inr (inl s))
@@ -134,8 +134,8 @@ module _ (held : Holding) (bytes : Bytes) (status : ℕ) (text : Bytes) (e : hel
 
 -- a program that is not refused is analysed
 pub analysed : (A : Program → ℕ → Bytes → Type 0) (p : Program) (status : ℕ) (text : Bytes) → status ≢ REFUSED → AnalysisAnswers A p status text → A p status text
-analysed A p status text no (analysis.IsNotBuilt place loop s t) = absurd (no s)
-analysed A p status text no (analysis.IsAnalysed none a) = a
+analysed A p status text no (IsNotBuilt place loop s t) = absurd (no s)
+analysed A p status text no (IsBuilt none a) = a
 
 -- a file that is not there is not answered
 pub of_nothing : (limit : ℕ) (long : Bytes) (A : Bytes → ℕ → Bytes → Type 0) (held : Holding) (status : ℕ) (text : Bytes) → held ≡ Nothing → FileAnswers limit long A held status text → ⊥
@@ -156,8 +156,8 @@ module _ (A : Program → ℕ → Bytes → Type 0) (done : (p : Program) (statu
 
   short_status : (bytes : Bytes) (status : ℕ) (text : Bytes) → SourceOf bytes status text → (status ≡ DONE) ⊎ (status ≡ REFUSED)
   short_status bytes status text (IsFaulty f faulty s t) = inr s
-  short_status bytes status text (IsSpelled p spells (analysis.IsNotBuilt place loop s t)) = inr s
-  short_status bytes status text (IsSpelled p spells (analysis.IsAnalysed none a)) = inl (done p status text a)
+  short_status bytes status text (IsSpelled p spells (IsNotBuilt place loop s t)) = inr s
+  short_status bytes status text (IsSpelled p spells (IsBuilt none a)) = inl (done p status text a)
 
   -- more bytes than the limit are answered as too long, and no others are
   pub analysis_too_long : (held : Holding) (bytes : Bytes) (status : ℕ) (text : Bytes) → held ≡ Held bytes → OnSource (AnalysisAnswers A) held status text → (status ≡ TOO_LONG) ↔ (SOURCE_BYTES < length bytes)
@@ -186,8 +186,8 @@ module _ (A : Program → ℕ → Bytes → Type 0) (done : (p : Program) (statu
 
   refused_by : (bytes : Bytes) (status : ℕ) (text : Bytes) → SourceOf bytes status text → (status ≡ REFUSED) ↔ (IsAnalysed bytes → ⊥)
   refused_by bytes status text (IsFaulty f faulty s t) = (λ e. no_fault bytes f faulty, λ none. s)
-  refused_by bytes status text (IsSpelled p spells (analysis.IsNotBuilt place loop s t)) = (λ e. no_loop bytes p place spells loop, λ none. s)
-  refused_by bytes status text (IsSpelled p spells (analysis.IsAnalysed free a)) =
+  refused_by bytes status text (IsSpelled p spells (IsNotBuilt place loop s t)) = (λ e. no_loop bytes p place spells loop, λ none. s)
+  refused_by bytes status text (IsSpelled p spells (IsBuilt free a)) =
       let d = done p status text a in
       (λ e. absurd (omega arith), λ none. absurd (none (record { program = p; spelled = spells; loop_free = free })))
 

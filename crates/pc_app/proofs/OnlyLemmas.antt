@@ -16,7 +16,8 @@ use Rattle.pc_cert.specs.CertificateTexts.{IsTextOf}
 use Rattle.pc_cert.specs.Faults.{fault_of}
 use Rattle.pc_cert.specs.declared.fault.CertFault.{CertFault}
 use Rattle.pc_cert.proofs.Meaning.{each_text_has_one_answer, text_determines_certificate}
-use Rattle.pc_graph.specs.Arc.{Enter, arc}
+use Rattle.pc_graph.specs.Arc.{arc}
+use Rattle.pc_graph.specs.declared.what.What.TheVariants.{Enter}
 use Rattle.pc_graph.specs.Lowering.{graph, rules, points_from}
 use Rattle.pc_graph.specs.Flow.{Flow}
 use Rattle.pc_replay.specs.Rule.{ruling}
@@ -36,7 +37,7 @@ use Rattle.pc_app.specs.Answers.FileAnswers.{IsTooLong, IsShort}
 use Rattle.pc_app.specs.Answers.SourceAnswers.{IsFaulty, IsSpelled}
 use Rattle.pc_app.specs.Answers.ScriptAnswers.{IsNoScript, IsScript}
 use Rattle.pc_app.specs.Answers.CertificateAnswers.{IsNoCertificate, IsCertificate}
-use Rattle.pc_app.specs.Answers.AnalysisAnswers as analysis
+use Rattle.pc_app.specs.Answers.AnalysisAnswers.{IsNotBuilt, IsAnalysed as IsBuilt}
 use Rattle.pc_app.specs.Promises.{AreTold, IsOnlyStatus}
 use Rattle.pc_app.proofs.AnswerLemmas.{order_answers}
 
@@ -109,12 +110,12 @@ module _ (s : ℕ) (t : Bytes) (s' : ℕ) (t' : Bytes) where
 
   analysis_once : (A : Program → ℕ → Bytes → Type 0) → ((p : Program) (status : ℕ) (text : Bytes) → A p status text → status ≡ DONE) → (p q : Program) → content_of p ≡ content_of q →
       AnalysisAnswers A p s t → AnalysisAnswers A q s' t' → s ≡ s'
-  analysis_once A done p q same (analysis.IsNotBuilt place loop e u) (analysis.IsNotBuilt place' loop' e' u') = e ∙ sym e'
-  analysis_once A done p q same (analysis.IsNotBuilt place loop e u) (analysis.IsAnalysed free y) =
+  analysis_once A done p q same (IsNotBuilt place loop e u) (IsNotBuilt place' loop' e' u') = e ∙ sym e'
+  analysis_once A done p q same (IsNotBuilt place loop e u) (IsBuilt free y) =
       let one = ap (λ (c : Content). first (whiles_of c.body)) same in absurd (cc)
-  analysis_once A done p q same (analysis.IsAnalysed free x) (analysis.IsNotBuilt place loop e u) =
+  analysis_once A done p q same (IsBuilt free x) (IsNotBuilt place loop e u) =
       let one = ap (λ (c : Content). first (whiles_of c.body)) same in absurd (cc)
-  analysis_once A done p q same (analysis.IsAnalysed free x) (analysis.IsAnalysed free' y) = done p s t x ∙ sym (done q s' t' y)
+  analysis_once A done p q same (IsBuilt free x) (IsBuilt free' y) = done p s t x ∙ sym (done q s' t' y)
 
   -- programs that are equal but for their proofs have one graph
   same_graph : (p q : Program) → content_of p ≡ content_of q → graph p ≡ graph q

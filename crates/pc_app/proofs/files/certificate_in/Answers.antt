@@ -20,4 +20,4 @@ returns-in_err-bytes-clause-answered g c =
 pub returns : goal.returns
 returns g c =
     let has = c.in_ok-bytes.ensures.bytes in
-    record { answered = IsShort c.in_ok-bytes.bytes.items has.holds has.short (IsNoCertificate c.in-Err.fault (rw c.as_slice.ensures.value at (no_certificate _ c.in-Err.fault (search rules) c.in-Err.ensures)) refl c.in_ok-malformed_certificate-in-Err.ensures); counted = c.bytes_in.ensures.counted; kept = c.bytes_in.ensures.kept }
+    record { answered = IsShort c.in_ok-bytes.bytes.items has.holds has.short (IsNoCertificate c.in-Err.fault (rw c.as_slice.ensures.value at (no_certificate _ c.in-Err.fault (search rules) c.in-Err.ensures.means)) refl c.in_ok-malformed_certificate-in-Err.ensures); counted = c.bytes_in.ensures.counted; kept = c.bytes_in.ensures.kept }

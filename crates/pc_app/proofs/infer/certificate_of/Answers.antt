@@ -5,4 +5,5 @@ pub infer-requires : goal.infer-requires
 infer-requires c = rw c.in_ok-graph.ensures (no_heads c.args.program.now c.requires)
 
 pub returns-in-Ok-clause-inferred : goal.returns-in-Ok-clause-inferred
-returns-in-Ok-clause-inferred c = ?
+returns-in-Ok-clause-inferred c =
+    rw c.in_ok-graph.ensures at (inferred c.args.program.now c.in-Ok.certificate c.in-Ok.ensures.one c.in-Ok.ensures.accepted c.in-Ok.ensures.rows c.in-Ok.ensures.exact)
