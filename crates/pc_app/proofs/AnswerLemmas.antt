@@ -104,29 +104,29 @@ module _ (held : Holding) (bytes : Bytes) (status : ℕ) (text : Bytes) (e : hel
       inr (subst (λ (z : Bytes). length z ≤ limit) same short, subst (λ (z : Bytes). A z status text) same a)
 
   file_read : (limit : ℕ) (long : Bytes) (A : Bytes → ℕ → Bytes → Type 0) → status ≢ TOO_LONG → FileAnswers limit long A held status text → A bytes status text
-  file_read limit long A no a = by (of_held limit long A a)
+  file_read limit long A not_long a = by (of_held limit long A a)
     where
       by : ((limit < length bytes) × (status ≡ TOO_LONG)) ⊎ ((length bytes ≤ limit) × A bytes status text) → A bytes status text
-      by (inl h) = absurd (no h.1)
+      by (inl h) = absurd (not_long h.1)
       by (inr h) = h.1
 
   -- the program that is answered
   pub source_read : (A : Program → ℕ → Bytes → Type 0) → status ≢ TOO_LONG → status ≢ REFUSED → OnSource A held status text → (p : Program) × Spells bytes p × A p status text
-  source_read A no not_refused a = by (file_read _ _ (SourceAnswers A) no a)
+  source_read A not_long not_refused a = by (file_read _ _ (SourceAnswers A) not_long a)
     where
       by : SourceAnswers A bytes status text → (p : Program) × Spells bytes p × A p status text
       by (IsFaulty f faulty s t) = absurd (not_refused s)
       by (IsSpelled p spells b) = (p, spells, b)
 
   pub script_read : (params : ℕ) (A : Choosing → ℕ → Bytes → Type 0) → status ≢ TOO_LONG → status ≢ MALFORMED → OnScript params A held status text → (c : Choosing) × (script_of params bytes ≡ Ok c) × A c status text
-  script_read params A no not_malformed a = by (file_read _ _ (ScriptAnswers params A) no a)
+  script_read params A not_long not_malformed a = by (file_read _ _ (ScriptAnswers params A) not_long a)
     where
       by : ScriptAnswers params A bytes status text → (c : Choosing) × (script_of params bytes ≡ Ok c) × A c status text
       by (IsNoScript f faulty s t) = absurd (not_malformed s)
       by (IsScript c means b) = (c, means, b)
 
   pub certificate_read : (A : Certificate → ℕ → Bytes → Type 0) → status ≢ TOO_LONG → status ≢ MALFORMED → OnCertificate A held status text → (c : Certificate) × IsTextOf bytes c × A c status text
-  certificate_read A no not_malformed a = by (file_read _ _ (CertificateAnswers A) no a)
+  certificate_read A not_long not_malformed a = by (file_read _ _ (CertificateAnswers A) not_long a)
     where
       by : CertificateAnswers A bytes status text → (c : Certificate) × IsTextOf bytes c × A c status text
       by (IsNoCertificate f faulty s t) = absurd (not_malformed s)
@@ -134,8 +134,8 @@ module _ (held : Holding) (bytes : Bytes) (status : ℕ) (text : Bytes) (e : hel
 
 -- a program that is not refused is analysed
 pub analysed : (A : Program → ℕ → Bytes → Type 0) (p : Program) (status : ℕ) (text : Bytes) → status ≢ REFUSED → AnalysisAnswers A p status text → A p status text
-analysed A p status text no (IsNotBuilt place loop s t) = absurd (no s)
-analysed A p status text no (IsBuilt none a) = a
+analysed A p status text not_refused (IsNotBuilt place loop s t) = absurd (not_refused s)
+analysed A p status text not_refused (IsBuilt none a) = a
 
 -- a file that is not there is not answered
 pub of_nothing : (limit : ℕ) (long : Bytes) (A : Bytes → ℕ → Bytes → Type 0) (held : Holding) (status : ℕ) (text : Bytes) → held ≡ Nothing → FileAnswers limit long A held status text → ⊥

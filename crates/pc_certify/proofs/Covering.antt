@@ -73,11 +73,11 @@ premise_proves premises goal a i got at_most in_range fits sum =
     let same_goal = sym (scaled_one (negation goal)) in
     let same_premise = sym (scaled_one a) ∙ ap (scaled_by (pos 1)) (sym named) in
     let same : sum_of (negation goal) a ≡ total premises goal (with_premise i) =
-        ap (λ (r : Linear). sum_of r a) same_goal ∙ ap (λ (r : Linear). sum_of (scaled_by (pos 1) (negation goal)) r) same_premise in
+    ap (λ (r : Linear). sum_of r a) same_goal ∙ ap (λ (r : Linear). sum_of (scaled_by (pos 1) (negation goal)) r) same_premise in
     let low = is.1 in
     let below : (sum_of (negation goal) a).constant ≤ℤ negsuc 0 = omega (arith, ints) in
     let zeros : IsNumber (sum_of (negation goal) a) =
-        subst (λ (cs : List ℤ). AllByRecursion (λ c. c ≡ pos 0) (add_lists (negate_list goal.coefficients) cs)) (sym is.0) (cancelled goal.coefficients) in
+    subst (λ (cs : List ℤ). AllByRecursion (λ c. c ≡ pos 0) (add_lists (negate_list goal.coefficients) cs)) (sym is.0) (cancelled goal.coefficients) in
     let sums : IsInRange (sum_of (negation goal) a) = (sum, zeros_in_range (sum_of (negation goal) a).coefficients zeros) in
     record {
       shows = record {

@@ -30,7 +30,7 @@ asked_covered a e source own target is_source is_own is_target covers =
     let P : Linear → Type 0 = λ r. is_covered r (source ++ own) ≡ true in
     let same : rows_at a e.from ++ test_rows e.what ≡ source ++ own = sym (ap (λ (z : List Linear). z ++ own) is_source ∙ ap (λ (z : List Linear). rows_at a e.from ++ z) is_own) in
     let owed = subst (λ (z : List Linear). AllByRecursion (λ r. is_covered r z ≡ true) (map (back e.what) (asked e.what (rows_at a e.to)))) same
-        (subst (λ (z : List Linear). AllByRecursion (λ r. is_covered r (rows_at a e.from ++ test_rows e.what) ≡ true) z) (owed_is_asked e.what (rows_at a e.to)) covers) in
+    (subst (λ (z : List Linear). AllByRecursion (λ r. is_covered r (rows_at a e.from ++ test_rows e.what) ≡ true) z) (owed_is_asked e.what (rows_at a e.to)) covers) in
     each_mapped P (back e.what) (asked e.what target)
     (subst (λ (z : List Linear). AllByRecursion P (map (back e.what) (asked e.what z))) (sym is_target) owed)
 

@@ -65,7 +65,7 @@ module _ {A B : Type 0} (R : A → B → Type 0) where
   pub pairs_more : (xs : List A) (i : ℕ) (x : A) (ys : List B) (y : B) → slice_get xs i ≡ Some x → Pairwise R (take i xs) ys → R x y → Pairwise R (take (i + 1) xs) (ys ++ y ∷ [])
   pairs_more xs i x ys y got h r =
       let next : take (i + 1) xs ≡ take i xs ++ x ∷ [] =
-          take_more xs i x (slice_get_within xs i x got) ∙ ap (λ (z : A). take i xs ++ z ∷ []) (get_or_from_slice_get xs i x x got) in
+      take_more xs i x (slice_get_within xs i x got) ∙ ap (λ (z : A). take i xs ++ z ∷ []) (get_or_from_slice_get xs i x x got) in
       subst (λ (zs : List A). Pairwise R zs (ys ++ y ∷ [])) (sym next) (pairs_join (take i xs) (x ∷ []) ys (y ∷ []) h (r, tt))
 
   pub pairs_done : (xs : List A) (i : ℕ) (ys : List B) → length xs ≤ i → Pairwise R (take i xs) ys → Pairwise R xs ys

@@ -26,11 +26,7 @@ use std::alloc::Global;
 /// is not in range; or where at an edge from a point that is no head the constants of that negation
 /// and of the first row that covers the owed one have a sum that is not in range; or where at an
 /// edge from a head the question is not modest, or no multipliers show the row.
-pub fn prove(
-    alloc: Global,
-    g: &Graph,
-    a: &Annotation,
-) -> Result<Option<Annotated>, NoMemory>
+pub fn prove(alloc: Global, g: &Graph, a: &Annotation) -> Result<Option<Annotated>, NoMemory>
     requires { IsComplete g.now a.now }
     ensures rows { IfOk result (λ o. IfSome o (λ b. b.rows ≡ a.now)) }
     ensures accepted { IfOk result (λ o. IfSome o (λ b. Accepts g.now (claim g.now (b ∷ [])))) }
@@ -41,11 +37,7 @@ pub fn prove(
 }
 
 /// The annotation with the proofs of each edge.
-pub fn annotated(
-    alloc: Global,
-    g: &Graph,
-    a: &Annotation,
-) -> Result<Option<Annotated>, NoMemory>
+pub fn annotated(alloc: Global, g: &Graph, a: &Annotation) -> Result<Option<Annotated>, NoMemory>
     requires { IsComplete g.now a.now }
     ensures { AnnotatedIs g.now a.now result }
 {

@@ -40,7 +40,14 @@ pub fn edge_proofs(
     let none = Rows::new(alloc);
     let source = rows_at(a, e.from);
     let _most = source.len();
-    asked_proofs(alloc, head, e, source, test_rows(e, &none), rows_at(a, e.to))
+    asked_proofs(
+        alloc,
+        head,
+        e,
+        source,
+        test_rows(e, &none),
+        rows_at(a, e.to),
+    )
 }
 
 /// The rows of an edge's test, and `none` at an edge of another kind.

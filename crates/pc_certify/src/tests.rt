@@ -16,6 +16,7 @@ use std::process::Abort;
 use std::test::Fail;
 
 type Numbers = [i128; 2];
+
 type Multipliers = (i128, &'static [(u32, i128)]);
 
 const CHOICE_ROWS: [&[Numbers]; 5] = [
@@ -147,7 +148,9 @@ fn conditions_have_no_needless_row(rt: HostRuntime) -> Result<(), Fail> {
         assert_eq!(rt; c.alternatives.is_empty(), wanted.is_none());
         for a in c.alternatives.as_slice() {
             let rows = a.rows.as_slice().first();
-            assert!(rt; rows.is_some_and(|rows| wanted.is_some_and(|wanted| are_rows(rows, wanted))));
+            assert!(rt;
+                rows.is_some_and(|rows| wanted.is_some_and(|wanted| are_rows(rows, wanted)))
+            );
         }
     }
     Ok(())
@@ -164,9 +167,17 @@ fn annotation(alloc: Global, g: &Graph) -> Result<Annotation, Fail>
 #[test]
 fn rows_that_heads_owe_are_looked_for(rt: HostRuntime) -> Result<(), Fail> {
     let alloc = rt.alloc();
-    let shown = graph(&rt, alloc, b"entry (x) { while (x >= 1) { x = x - 1; } assert (x <= 3); }")?;
+    let shown = graph(
+        &rt,
+        alloc,
+        b"entry (x) { while (x >= 1) { x = x - 1; } assert (x <= 3); }",
+    )?;
     assert!(rt; prove(alloc, &shown, &annotation(alloc, &shown)?)?.is_some());
-    let refuted = graph(&rt, alloc, b"entry (x) { while (x >= 1) { x = x - 1; } assert (x <= -1); }")?;
+    let refuted = graph(
+        &rt,
+        alloc,
+        b"entry (x) { while (x >= 1) { x = x - 1; } assert (x <= -1); }",
+    )?;
     assert!(rt; prove(alloc, &refuted, &annotation(alloc, &refuted)?)?.is_none());
     Ok(())
 }

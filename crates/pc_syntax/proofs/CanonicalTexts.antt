@@ -174,7 +174,7 @@ module _ (names : List Bytes) (each : list_all is_name names ≡ true) where
       (λ z. good_by (expr.Num z) (λ h b l r stop. ((h, stop), tt)))
       (λ v. good_by (expr.Name v) (λ h b l r stop. ((named v (below_is v (length names) b), stop), tt)))
       (λ a p g. good_by (expr.Neg a p) (λ h b l.
-          nice_wrapped (wraps_negation l) (Mark terminal.Minus ∷ expr_pieces names a level.Atom) (λ r stop. sign terminal.Minus (expr_pieces names a level.Atom) r refl refl (g h b level.Atom r stop))))
+      nice_wrapped (wraps_negation l) (Mark terminal.Minus ∷ expr_pieces names a level.Atom) (λ r stop. sign terminal.Minus (expr_pieces names a level.Atom) r refl refl (g h b level.Atom r stop))))
       (λ a b p ga gb. good_by (expr.Add a b p) (λ h g l. good_two a b terminal.Plus wraps_sum level.Expression level.Addend refl ga gb h g l))
       (λ a b p ga gb. good_by (expr.Sub a b p) (λ h g l. good_two a b terminal.Minus wraps_sum level.Expression level.Addend refl ga gb h g l))
       (λ a b p ga gb. good_by (expr.Mul a b p) (λ h g l. good_two a b terminal.Star wraps_product level.Addend level.Factor refl ga gb h g l))
@@ -271,11 +271,13 @@ module _ (names : List Bytes) (each : list_all is_name names ≡ true) where
           let a = and_is (in_range lo) (in_range hi && int_le lo hi) h in
           let b = and_is (in_range hi) (int_le lo hi) a.1 in
           let last : AreApart (bound_pieces (bound.At hi) ++ Mark terminal.CloseBracket ∷ []) r =
-              apart_join (bound_pieces (bound.At hi)) (Mark terminal.CloseBracket ∷ []) r (nice_bound hi b.0 (93 ∷ r) close_bracket) (sign terminal.CloseBracket [] r refl refl tt) in
-          let rest : List Piece = Mark terminal.Comma ∷ Blank 1 ∷ bound_pieces (bound.At hi) ++ Mark terminal.CloseBracket ∷ [] in
-          (tt, before_space terminal.Plus (Mark terminal.OpenBracket ∷ bound_pieces (bound.At lo) ++ rest) r refl
-          (sign terminal.OpenBracket (bound_pieces (bound.At lo) ++ rest) r refl refl
-          (apart_join (bound_pieces (bound.At lo)) rest r (nice_bound lo a.0 (bytes_of rest ++ r) comma) (before_space terminal.Comma (bound_pieces (bound.At hi) ++ Mark terminal.CloseBracket ∷ []) r refl last))))
+          apart_join (bound_pieces (bound.At hi)) (Mark terminal.CloseBracket ∷ []) r (nice_bound hi b.0 (93 ∷ r) close_bracket) (sign terminal.CloseBracket [] r refl refl tt) in
+          let rest : List Piece = Mark terminal.Comma ∷ Blank 1 ∷ bound_pieces (bound.At hi) ++ Mark terminal.CloseBracket ∷ [] in (
+            tt,
+            before_space terminal.Plus (Mark terminal.OpenBracket ∷ bound_pieces (bound.At lo) ++ rest) r refl
+                (sign terminal.OpenBracket (bound_pieces (bound.At lo) ++ rest) r refl refl
+                (apart_join (bound_pieces (bound.At lo)) rest r (nice_bound lo a.0 (bytes_of rest ++ r) comma) (before_space terminal.Comma (bound_pieces (bound.At hi) ++ Mark terminal.CloseBracket ∷ []) r refl last))),
+          )
 
   nice_choice : (c : Option Choice) → sane.sane_choice c ≡ true → IsNice (choice_pieces c)
   nice_choice None h r stop = tt
@@ -322,9 +324,11 @@ module _ (names : List Bytes) (each : list_all is_name names ≡ true) where
 
   closed_block : (ss : List Stmt) → AllByRecursion Closes ss → all_true (map (shown.shown_stmt names) ss) ≡ true → all_true (map (sane.sane_stmt (length names)) ss) ≡ true → (k : ℕ) →
       IsClosed (block (map (stmt_pieces names) ss) k)
-  closed_block ss all h g k r =
-      (tt, sign terminal.OpenBrace (LineEnd ∷ lines (map (stmt_pieces names) ss) (k + 2) ++ Blank k ∷ Mark terminal.CloseBrace ∷ []) r refl refl
-      (tt, closed_both (lines (map (stmt_pieces names) ss) (k + 2)) (Blank k ∷ Mark terminal.CloseBrace ∷ []) (closed_lines ss all h g (k + 2)) (closed_end k) r))
+  closed_block ss all h g k r = (
+    tt,
+    sign terminal.OpenBrace (LineEnd ∷ lines (map (stmt_pieces names) ss) (k + 2) ++ Blank k ∷ Mark terminal.CloseBrace ∷ []) r refl refl
+        (tt, closed_both (lines (map (stmt_pieces names) ss) (k + 2)) (Blank k ∷ Mark terminal.CloseBrace ∷ []) (closed_lines ss all h g (k + 2)) (closed_end k) r),
+  )
 
   closed_else : (ss : List Stmt) → AllByRecursion Closes ss → all_true (map (shown.shown_stmt names) ss) ≡ true → all_true (map (sane.sane_stmt (length names)) ss) ≡ true → (k : ℕ) →
       IsClosed (else_part (map (stmt_pieces names) ss) k)
@@ -345,9 +349,17 @@ module _ (names : List Bytes) (each : list_all is_name names ≡ true) where
       IsClosed (Blank k ∷ Name (name_at names v) ∷ spaced terminal.Assign ++ (right_pieces names x ++ Mark terminal.Semicolon ∷ LineEnd ∷ []))
   closes_set v x h g k r =
       let a = and_is (nat_lt v (length names)) (sane.sane_right (length names) x) g in
-      let end : List Piece = Mark terminal.Semicolon ∷ LineEnd ∷ [] in
-      (tt, ((named v (below_is v (length names) a.0), space), (tt, before_space terminal.Assign (right_pieces names x ++ end) r refl
-      (closed_join (right_pieces names x) end (nice_right x h a.1) (λ r. semicolon) closed_stop r))))
+      let end : List Piece = Mark terminal.Semicolon ∷ LineEnd ∷ [] in (
+        tt,
+        (
+          (named v (below_is v (length names) a.0), space),
+          (
+            tt,
+            before_space terminal.Assign (right_pieces names x ++ end) r refl
+                (closed_join (right_pieces names x) end (nice_right x h a.1) (λ r. semicolon) closed_stop r),
+          ),
+        ),
+      )
 
   closes_check : (t : Terminal) (cs : List Compare) → is_mark t ≡ true → AreSane cs → (k : ℕ) → IsClosed (Blank k ∷ opened t (all_pieces names cs) ++ Mark terminal.Semicolon ∷ LineEnd ∷ [])
   closes_check t cs m h k r =
@@ -362,11 +374,13 @@ module _ (names : List Bytes) (each : list_all is_name names ≡ true) where
       let a2 = and_is (all_true (map (shown.shown_stmt names) xs)) (all_true (map (shown.shown_stmt names) ys)) a.1 in
       let b = and_is (sane.sane_test (length names) t) _ g in
       let b2 = and_is (all_true (map (sane.sane_stmt (length names)) xs)) (all_true (map (sane.sane_stmt (length names)) ys)) b.1 in
-      let last : List Piece = else_part (map (stmt_pieces names) ys) k ++ LineEnd ∷ [] in
-      (tt, closed_both (opened terminal.If (test_pieces names t)) (block (map (stmt_pieces names) xs) k ++ last)
-      (closed_opened terminal.If (test_pieces names t) refl (nice_test t a.0 b.0))
-      (closed_both (block (map (stmt_pieces names) xs) k) last (closed_block xs hx a2.0 b2.0 k)
-      (closed_both (else_part (map (stmt_pieces names) ys) k) (LineEnd ∷ []) (closed_else ys hy a2.1 b2.1 k) closed_feed)) r)
+      let last : List Piece = else_part (map (stmt_pieces names) ys) k ++ LineEnd ∷ [] in (
+        tt,
+        closed_both (opened terminal.If (test_pieces names t)) (block (map (stmt_pieces names) xs) k ++ last)
+            (closed_opened terminal.If (test_pieces names t) refl (nice_test t a.0 b.0))
+            (closed_both (block (map (stmt_pieces names) xs) k) last (closed_block xs hx a2.0 b2.0 k)
+            (closed_both (else_part (map (stmt_pieces names) ys) k) (LineEnd ∷ []) (closed_else ys hy a2.1 b2.1 k) closed_feed)) r,
+      )
 
   closes_while : (t : Test) (tried : List Compare) (xs : List Stmt) → AllByRecursion Closes xs →
       (shown.shown_test names t && (list_all (shown.shown_compare names) tried && all_true (map (shown.shown_stmt names) xs))) ≡ true →
@@ -377,11 +391,13 @@ module _ (names : List Bytes) (each : list_all is_name names ≡ true) where
       let a2 = and_is (list_all (shown.shown_compare names) tried) (all_true (map (shown.shown_stmt names) xs)) a.1 in
       let b = and_is (sane.sane_test (length names) t) _ g in
       let b2 = and_is (sane.sane_each (length names) tried) (all_true (map (sane.sane_stmt (length names)) xs)) b.1 in
-      let last : List Piece = block (map (stmt_pieces names) xs) k ++ LineEnd ∷ [] in
-      (tt, closed_both (opened terminal.While (test_pieces names t)) (tried_pieces names tried ++ last)
-      (closed_opened terminal.While (test_pieces names t) refl (nice_test t a.0 b.0))
-      (closed_both (tried_pieces names tried) last (closed_tried tried (sane_each_is tried a2.0 b2.0))
-      (closed_both (block (map (stmt_pieces names) xs) k) (LineEnd ∷ []) (closed_block xs hx a2.1 b2.1 k) closed_feed)) r)
+      let last : List Piece = block (map (stmt_pieces names) xs) k ++ LineEnd ∷ [] in (
+        tt,
+        closed_both (opened terminal.While (test_pieces names t)) (tried_pieces names tried ++ last)
+            (closed_opened terminal.While (test_pieces names t) refl (nice_test t a.0 b.0))
+            (closed_both (tried_pieces names tried) last (closed_tried tried (sane_each_is tried a2.0 b2.0))
+            (closed_both (block (map (stmt_pieces names) xs) k) (LineEnd ∷ []) (closed_block xs hx a2.1 b2.1 k) closed_feed)) r,
+      )
 
   closes : (s : Stmt) → Closes s
   closes s = by_stmt Closes
@@ -414,9 +430,11 @@ nice_names (w ∷ ws) h r stop = let a = and_is (is_name w) (list_all is_name ws
 closed_locals : (ws : List Bytes) → list_all is_name ws ≡ true → IsClosed (locals_pieces ws)
 closed_locals [] h r = tt
 closed_locals (w ∷ ws) h r =
-    let end : List Piece = Mark terminal.Semicolon ∷ LineEnd ∷ [] in
-    (tt, before_space terminal.Var (names_pieces (w ∷ ws) ++ end) r refl
-    (closed_join (names_pieces (w ∷ ws)) end (nice_names (w ∷ ws) h) (λ r. semicolon) (λ r. sign terminal.Semicolon (LineEnd ∷ []) r refl refl (tt, tt)) r))
+    let end : List Piece = Mark terminal.Semicolon ∷ LineEnd ∷ [] in (
+      tt,
+      before_space terminal.Var (names_pieces (w ∷ ws) ++ end) r refl
+          (closed_join (names_pieces (w ∷ ws)) end (nice_names (w ∷ ws) h) (λ r. semicolon) (λ r. sign terminal.Semicolon (LineEnd ∷ []) r refl refl (tt, tt)) r),
+    )
 
 both_true : (a b : Bool) → a ≡ true → b ≡ true → (a && b) ≡ true
 both_true a b h g = rw (h, g) refl
@@ -445,9 +463,14 @@ closed_program names body h g r =
     let params : List Piece = names_pieces (take names.params names.names) in
     closed_both (opened terminal.Entry params) (Blank 1 ∷ Mark terminal.OpenBrace ∷ LineEnd ∷ locals ++ statements)
     (closed_opened names.names a.0 terminal.Entry params refl (nice_names (take names.params names.names) (names_first names.params names.names a.0)))
-    (λ r. (tt, sign terminal.OpenBrace (LineEnd ∷ locals ++ statements) r refl refl
-    (tt, closed_both locals statements (closed_locals (drop names.params names.names) (names_rest names.params names.names a.0))
-    (closed_both (stmts_pieces names.names body 2) last (closed_body names.names a.0 body c.0 f.0 2) (λ r. sign terminal.CloseBrace (LineEnd ∷ []) r refl refl (tt, tt))) r)))
+    (λ r. (
+      tt,
+      sign terminal.OpenBrace (LineEnd ∷ locals ++ statements) r refl refl (
+        tt,
+        closed_both locals statements (closed_locals (drop names.params names.names) (names_rest names.params names.names a.0))
+            (closed_both (stmts_pieces names.names body 2) last (closed_body names.names a.0 body c.0 f.0 2) (λ r. sign terminal.CloseBrace (LineEnd ∷ []) r refl refl (tt, tt))) r,
+      ),
+    ))
     r
 
 pub canonical_texts_are_cut : CanonicalTextsAreCut

@@ -6,4 +6,5 @@ infer-requires c = rw c.in_ok-graph.ensures (no_heads c.args.program.now c.requi
 
 pub returns-in-Ok-clause-inferred : goal.returns-in-Ok-clause-inferred
 returns-in-Ok-clause-inferred c =
-    rw c.in_ok-graph.ensures at (inferred c.args.program.now c.in-Ok.certificate c.in-Ok.ensures.one c.in-Ok.ensures.accepted c.in-Ok.ensures.rows c.in-Ok.ensures.exact)
+    let same = c.in_ok-graph.ensures in
+    inferred c.args.program.now c.in-Ok.certificate c.in-Ok.ensures.one (rw same at c.in-Ok.ensures.accepted) (rw same at c.in-Ok.ensures.rows) (rw same at c.in-Ok.ensures.exact)

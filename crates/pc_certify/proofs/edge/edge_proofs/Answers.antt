@@ -13,7 +13,7 @@ asked_proofs-requires-clause-covers c =
     let from = ap (λ (e : Arc). e.from) c.e.view_is in
     let to = ap (λ (e : Arc). e.to) c.e.view_is in
     let head = head_told points c.args.e.now.from c.is_head-head.result c.requires.leaves
-        (subst (λ (p : ℕ). IfSome (slice_get points p) (λ point. c.is_head-head.result ≡ point.head)) from c.is_head-head.ensures) in
+    (subst (λ (p : ℕ). IfSome (slice_get points p) (λ point. c.is_head-head.result ≡ point.head)) from c.is_head-head.ensures) in
     λ none. asked_covered a c.args.e.now c.rows_at-source.result.now c.test_rows.result.now c.rows_at.result.now
     (c.rows_at-source.ensures ∙ ap (rows_at a) from) c.test_rows.ensures.rows (c.rows_at.ensures ∙ ap (rows_at a) to) (c.requires.covers (head ∙ none))
 
@@ -24,7 +24,7 @@ returns c =
     let from = ap (λ (e : Arc). e.from) c.e.view_is in
     let to = ap (λ (e : Arc). e.to) c.e.view_is in
     let head = head_told points c.args.e.now.from c.is_head-head.result c.requires.leaves
-        (subst (λ (p : ℕ). IfSome (slice_get points p) (λ point. c.is_head-head.result ≡ point.head)) from c.is_head-head.ensures) in
+    (subst (λ (p : ℕ). IfSome (slice_get points p) (λ point. c.is_head-head.result ≡ point.head)) from c.is_head-head.ensures) in
     edge_is points a c.args.e.now c.is_head-head.result c.rows_at-source.result.now c.test_rows.result.now c.rows_at.result.now c.asked_proofs.result
     head (c.rows_at-source.ensures ∙ ap (rows_at a) from) c.test_rows.ensures.rows (c.rows_at.ensures ∙ ap (rows_at a) to)
     c.asked_proofs.ensures.few c.asked_proofs.ensures.proofs

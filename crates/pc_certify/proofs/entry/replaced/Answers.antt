@@ -22,20 +22,20 @@ loop-i-preserved c =
     let h = c.loop-i.invariant in
     let from = ap (λ (z : Arc). z.from) c.behind-g.view_is in
     elim c.if-edge-eq0.branch [
-      then-edge-eq0+in_ok-copies w ↦
-        let done = subst (EdgeDone (set a 0 rows) (arc 0 1 (Enter g.params))) (sym w.in_ok-copies.ensures) c.requires.done in
-        record {
-          rows = ap (λ (z : Annotated). z.rows) w.a-is ∙ h.rows;
-          proofs = subst (SoFar g a rows (i + 1)) (sym (ap (λ (z : Annotated). z.proofs) w.a-is))
-              (renewed_more g kept a rows i e c.loop-i.a.proofs w.set-then-edge-eq0.new.self w.in_ok-copies.field-0 c.edge.ensures
-              (sym from ∙ w.if-edge-eq0.true) done w.set-then-edge-eq0.ensures h.proofs);
-        }
-    | else-edge-eq0 w ↦
-        record {
-          rows = ap (λ (z : Annotated). z.rows) w.a-is ∙ h.rows;
-          proofs = subst (SoFar g a rows (i + 1)) (sym (ap (λ (z : Annotated). z.proofs) w.a-is))
-              (stays_more g kept a rows i e c.loop-i.a.proofs c.edge.ensures (λ is. w.if-edge-eq0.false (from ∙ is)) h.proofs);
-        }
+      | then-edge-eq0+in_ok-copies w ↦
+          let done = subst (EdgeDone (set a 0 rows) (arc 0 1 (Enter g.params))) (sym w.in_ok-copies.ensures) c.requires.done in
+          record {
+            rows = ap (λ (z : Annotated). z.rows) w.a-is ∙ h.rows;
+            proofs = subst (SoFar g a rows (i + 1)) (sym (ap (λ (z : Annotated). z.proofs) w.a-is))
+                (renewed_more g kept a rows i e c.loop-i.a.proofs w.set-then-edge-eq0.new.self w.in_ok-copies.field-0 c.edge.ensures
+                (sym from ∙ w.if-edge-eq0.true) done w.set-then-edge-eq0.ensures h.proofs);
+          }
+      | else-edge-eq0 w ↦
+          record {
+            rows = ap (λ (z : Annotated). z.rows) w.a-is ∙ h.rows;
+            proofs = subst (SoFar g a rows (i + 1)) (sym (ap (λ (z : Annotated). z.proofs) w.a-is))
+                (stays_more g kept a rows i e c.loop-i.a.proofs c.edge.ensures (λ is. w.if-edge-eq0.false (from ∙ is)) h.proofs);
+          }
     ]
 
 pub returns-clause-proved : goal.returns-clause-proved
