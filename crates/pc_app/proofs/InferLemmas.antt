@@ -1,5 +1,5 @@
 -- What follows from a certificate that is right for the graph of a program.
-use Rattle.std.proofs.Common.{◌≡◌, ◌≤◌, ◌<◌, ℕ, zero, suc, ◌+◌, ◌*◌, ◌^◌, sym, ap, subst, ◌∙◌, arith, List, [], ◌∷◌, length, map, get_or, Bool, true, false, All, inl, inr, Option, Some, None, ℤ, pos, refl}
+use Rattle.std.proofs.Common.{◌≡◌, ◌≤◌, ◌<◌, ℕ, zero, suc, ◌+◌, ◌*◌, ◌^◌, sym, ap, subst, ◌∙◌, arith, List, [], ◌∷◌, length, map, get_or, Bool, true, false, All, inl, inr, Option, Some, None, Result, Ok, Err, IfOk, ℤ, pos, refl}
 use Rattle.std.specs.Prelude.{◌⊎◌, ◌&&◌, nat_le, int_le, ◌≤ℤ◌}
 use Rattle.std.specs.List.{AllByRecursion}
 use Rattle.std.proofs.lemmas.Bool.Decides.{nat_tests}
@@ -28,6 +28,11 @@ use Rattle.pc_replay.specs.Shape.{IsShaped}
 use Rattle.pc_replay.proofs.Sound.{accepted_programs_are_safe}
 use Rattle.pc_certify.specs.Inferring.{IsExact, AreEntryRows}
 use Rattle.pc_certify.proofs.Exactness.{infer_is_exact}
+use Rattle.pc_app.specs.declared.answer.Answer.{Answer}
+use Rattle.pc_app.specs.declared.status.TheConstants.{REFUSED}
+use Rattle.pc_app.specs.Answers.{AnalysisAnswers}
+use Rattle.pc_app.specs.Answers.AnalysisAnswers.{IsNotBuilt}
+use Rattle.pc_app.specs.Texts.{refused, not_built}
 use Rattle.pc_app.specs.declared.limits.TheConstants.{ALTERNATIVES, CERTIFICATE_BYTES}
 use Rattle.pc_app.specs.Inferred.{IsEntry, IsCondition, Suffices, HasViolation, IsNeeded, IsTameAndStraight, Inferred}
 
@@ -153,3 +158,10 @@ no_heads p e = loop_free_graphs p (none_is (whiles_of p.body) e)
 
 pub short_text : (c : Certificate) (text : Bytes) → length c.alternatives ≤ 1 → IsTextOf text c → length text ≤ CERTIFICATE_BYTES
 short_text c text one is = let l = texts_are_short c is.showable is.kept in let e = ap (λ (z : Bytes). length z) is.text in omega arith
+
+-- ---- programs that are not analysed
+
+pub not_built_yet : {E : Type 0} (A : Program → ℕ → Bytes → Type 0) (p : Program) (place : Place) (r : Result Answer E) → first (whiles_of p.body) ≡ Some place →
+    IfOk r (λ a. (a.status ≡ REFUSED) × (a.text ≡ refused (not_built place))) → IfOk r (λ a. AnalysisAnswers A p a.status a.text)
+not_built_yet A p place (Ok a) loop h = IsNotBuilt place loop h.0 h.1
+not_built_yet A p place (Err e) loop h = tt

@@ -1,14 +1,8 @@
 //! Certificates from outside, read and shown again, and what is told of texts that are none.
 
-ghost use Rattle.std.specs.Prelude.{◌≡◌, ◌<◌, [], ◌∷◌, length, All, IfOk};
-ghost use Rattle.pc_rows.specs.Linear.{IsOver};
-ghost use Rattle.pc_cert.specs.Certificate.{condition_of};
-
 use super::*;
-use pc_rows::{Row, Rows};
-use pc_text::{Lines, Names, NoMemory, Text};
-use sqlite_items::Items;
-use std::alloc::{AllocError, Global};
+use pc_text::{Lines, NoMemory, Text};
+use std::alloc::Global;
 use std::test::Fail;
 
 /// What is told of a text that is no certificate, and the text of one that is.
@@ -137,42 +131,5 @@ fn the_seventeenth_alternative_is_one_too_many(rt: HostRuntime) -> Result<(), Fa
         text.push_all(b"alternative\n")?;
     }
     assert_eq!(rt; told(alloc, text.bytes())?.bytes(), b"number 19".as_slice());
-    Ok(())
-}
-
-fn one<T: Drop>(alloc: Global, item: T) -> Result<Items<T>, AllocError>
-    ensures { IfOk result (λ items. items ≡ item ∷ []) }
-{
-    let mut items = Items::new(alloc);
-    items.push(item)?;
-    Ok(items)
-}
-
-/// Of a graph with one point and no edge, with the row `-j + 3` there.
-fn of_one_row(alloc: Global) -> Result<Certificate, Fail>
-    ensures entry { IfOk result (λ c. All (λ a. 0 < length a.rows) c.alternatives) }
-    ensures within { IfOk result (λ c. All (All (IsOver 1)) (condition_of c)) }
-{
-    let mut rows = Rows::new(alloc);
-    rows.push(Row::of_constant(alloc, 3).with(0, -1))?;
-    let rows = one(alloc, rows)?;
-    let proofs = Items::new(alloc);
-    let alternatives = one(alloc, Annotated { rows, proofs })?;
-    Ok(Certificate {
-        points: 1,
-        edges: 0,
-        variables: 1,
-        alternatives,
-    })
-}
-
-#[test]
-fn the_condition_is_that_of_point_0(rt: HostRuntime) -> Result<(), Fail> {
-    let alloc = rt.alloc();
-    let mut names = Names::new(alloc);
-    names.push_param(b"j")?;
-    let c = of_one_row(alloc)?;
-    let text = show_condition(alloc, &c, &names)?;
-    assert_eq!(rt; text.bytes(), b"suffices: -j + 3 >= 0\n".as_slice());
     Ok(())
 }

@@ -1,10 +1,25 @@
-use Rattle.std.proofs.Common.{refl, rules}
-use Rattle.pc_app.specs.Answers.AnalysisAnswers.{IsNotBuilt, IsAnalysed}
-use Rattle.pc_app.proofs.InferLemmas.{short_text}
+use Rattle.std.proofs.Common.{◌≡◌, None, rules, refl, sym, ◌∙◌}
+use Rattle.pc_syntax.specs.Loops.{first, whiles_of}
+use Rattle.pc_app.specs.Answers.{CertifyAnswers}
+use Rattle.pc_app.specs.Answers.AnalysisAnswers.{IsAnalysed}
+use Rattle.pc_app.proofs.InferLemmas.{short_text, not_built_yet}
 use Rattle.pc_app.proofs.infer.certify_program.Goals as goal
 
 pub returns-in-Some : goal.returns-in-Some
-returns-in-Some c = ?
+returns-in-Some c = not_built_yet CertifyAnswers c.args.program.now c.in-Some.place c.not_built.result (sym c.first_loop.ensures ∙ c.in-Some.is) c.not_built.ensures
 
 pub returns : goal.returns
-returns c = ?
+returns c =
+    let none : first (whiles_of c.args.program.now.body) ≡ None = search rules in
+    let certificate = c.in_ok-certificate.certificate in
+    let text = c.in_ok-show_certificate.field-0 in
+    let is = c.in_ok-certificate.ensures in
+    let spelled = c.in_ok-show_certificate.ensures in
+    IsAnalysed none (record {
+      certificate = certificate;
+      inferred = is.inferred;
+      accepted = is.accepted;
+      spelled = spelled;
+      short = short_text certificate text is.one spelled;
+      status_is = refl;
+    })
