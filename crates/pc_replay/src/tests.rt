@@ -156,18 +156,19 @@ fn alternative(
     })
 }
 
+// A certificate with one alternative, for a graph.
 fn certificate(
     alloc: Global,
+    g: &Graph,
     points: &[RowsGiven],
     edges: &[ProofsGiven],
-    variables: u32,
 ) -> Result<Certificate, Fail> {
     let mut alternatives = Items::new(alloc);
     alternatives.push(alternative(alloc, points, edges)?)?;
     Ok(Certificate {
-        points: points.len() as u32,
-        edges: edges.len() as u32,
-        variables,
+        points: g.points(),
+        edges: g.edges(),
+        variables: g.variables(),
         alternatives,
     })
 }
@@ -382,7 +383,7 @@ fn a_straight_certificate_is_accepted_or_has_its_first_fault_told(
             all_rows[point] = rows;
             all_proofs[edge] = proofs;
         }
-        let c = certificate(alloc, &all_rows, &all_proofs, 1)?;
+        let c = certificate(alloc, &g, &all_rows, &all_proofs)?;
         assert_eq!(rt; accept(&g, &c), wanted);
         assert_eq!(rt; accept(&other, &c), Ruling::Shape);
     }
@@ -403,7 +404,7 @@ fn a_certificate_of_a_loop_is_accepted_or_has_its_first_fault_told(
             all_rows[point] = rows;
             all_proofs[edge] = proofs;
         }
-        let c = certificate(alloc, &all_rows, &all_proofs, 2)?;
+        let c = certificate(alloc, &g, &all_rows, &all_proofs)?;
         assert_eq!(rt; accept(&g, &c), wanted);
         assert_eq!(rt; accept(&other, &c), Ruling::Shape);
     }
@@ -438,7 +439,7 @@ const PROOFS_WITH_A_GAP: [ProofsGiven; 8] = [
 fn an_alternative_is_looked_at_whole_before_the_next(rt: HostRuntime) -> Result<(), Fail> {
     let alloc = rt.alloc();
     let g = graph(alloc, LOOP)?;
-    let mut c = certificate(alloc, &LOOP_ROWS, &LOOP_PROOFS, 2)?;
+    let mut c = certificate(alloc, &g, &LOOP_ROWS, &LOOP_PROOFS)?;
     let second = alternative(alloc, &ROWS_WITH_A_LOCAL, &LOOP_PROOFS)?;
     c.alternatives.push(second)?;
     assert_eq!(rt;
@@ -448,7 +449,7 @@ fn an_alternative_is_looked_at_whole_before_the_next(rt: HostRuntime) -> Result<
             row: 1,
         }
     );
-    let mut c = certificate(alloc, &LOOP_ROWS, &PROOFS_WITH_A_GAP, 2)?;
+    let mut c = certificate(alloc, &g, &LOOP_ROWS, &PROOFS_WITH_A_GAP)?;
     let second = alternative(alloc, &ROWS_WITH_A_LOCAL, &LOOP_PROOFS)?;
     c.alternatives.push(second)?;
     assert_eq!(rt;
@@ -472,7 +473,7 @@ const LARGE_PROOFS: [ProofsGiven; 3] = [&[], &[(-1, &[])], &[]];
 fn a_row_that_cannot_be_carried_back_is_past(rt: HostRuntime) -> Result<(), Fail> {
     let alloc = rt.alloc();
     let g = graph(alloc, LARGE)?;
-    let c = certificate(alloc, &LARGE_ROWS, &LARGE_PROOFS, 1)?;
+    let c = certificate(alloc, &g, &LARGE_ROWS, &LARGE_PROOFS)?;
     assert_eq!(rt;
         accept(&g, &c),
         Ruling::Past {
