@@ -239,7 +239,7 @@ fn loops_are_replayed_too(rt: HostRuntime) -> Result<(), Fail> {
 }
 
 /// Sources, certificates for others, and what is told of them.
-const OTHERS: [(&str, &str, u8, &str); 3] = [
+const OTHERS: [(&str, &str, u8, &str); 6] = [
     (
         "entry () { assert (1 <= 0); }",
         "precond 1\ngraph 3 2 0\nend\n",
@@ -257,6 +257,24 @@ const OTHERS: [(&str, &str, u8, &str); 3] = [
         "precond 1\n",
         REFUSED,
         "source: unknown-name 1:17",
+    ),
+    (
+        "entry (x) { x = 170141183460469231731687303715884105727 * x; assert (x <= 0); }",
+        "precond 1\ngraph 4 3 1\nalternative\npoint 0 0\npoint 1 0\npoint 2 1\n0 -2\npoint 3 0\nedge 0 0\nedge 1 1\n-1\nedge 2 0\nend\n",
+        FAILED,
+        "refused: past alternative 0 edge 1 row 0",
+    ),
+    (
+        "entry (x) { var y; }",
+        "precond 1\ngraph 2 1 2\nalternative\npoint 0 0\npoint 1 0\nedge 0 0\nalternative\npoint 0 2\n0 1 0\n0 1 1\npoint 1 0\nedge 0 0\nend\n",
+        FAILED,
+        "refused: entry alternative 1 row 1",
+    ),
+    (
+        "entry (x) { var y; }",
+        "precond 1\ngraph 2 1 2\nalternative\npoint 0 0\npoint 1 0\nedge 0 1\n1\nalternative\npoint 0 1\n0 1 1\npoint 1 0\nedge 0 0\nend\n",
+        FAILED,
+        "refused: count alternative 0 edge 0",
     ),
 ];
 
