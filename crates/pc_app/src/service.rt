@@ -15,11 +15,19 @@ use std::alloc::Global;
 
 /// Answers the words of a command line, and ends with a status.
 ///
-/// The words are those after the program's name. `infer F` reads the source `F` from the store and
-/// writes a condition on its entry states to the sink: [`DONE`]. `run F S` runs the source `F` on
-/// the script `S` and writes the verdict: [`DONE`], [`FAILED`](crate::FAILED) or
-/// [`PAST`](crate::PAST). What is written with each other status, and when it comes, stands with
-/// the statuses.
+/// The words are those after the program's name. What is written to the sink, once the files that
+/// they name were read from the store:
+///
+/// - `infer F`: a condition on the entry states of the source `F`, and with `--certificate` a
+///   certificate of one;
+/// - `replay F C`: the ruling on the certificate `C` for the source `F`, and where it is accepted
+///   its condition;
+/// - `run F S`: the verdict on the run of the source `F` over the script `S`;
+/// - `show F`: the canonical text of the source `F`.
+///
+/// An answer ends with [`DONE`], but a refused certificate and a violated assertion with
+/// [`FAILED`](crate::FAILED), and a run whose values leave the range with [`PAST`](crate::PAST).
+/// What is written with each other status, and when it comes, stands with the statuses.
 pub fn serve<S: Store, K: Sink>(alloc: Global, words: &[String], store: &mut S, out: &mut K) -> u8
     // Words `infer F`, done: the bytes of F spell a program, a condition on its entry states was
     // printed, and every entry state that meets it is safe.
