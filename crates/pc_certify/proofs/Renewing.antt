@@ -16,6 +16,7 @@ use Rattle.pc_graph.specs.Carry.{test_rows}
 use Rattle.pc_graph.specs.Flow.{Flow}
 use Rattle.pc_graph.specs.Lists.{AnyOf}
 use Rattle.pc_graph.specs.Shape.{IsGraph, IsHead, LeadsUp}
+use Rattle.pc_graph.proofs.Entries.{to_start}
 use Rattle.pc_lower.specs.Annotation.{rows_at, AreOver}
 use Rattle.pc_cert.specs.declared.certificate.Annotated.{Annotated}
 use Rattle.pc_replay.specs.Accepts.{RowProved}
@@ -95,7 +96,7 @@ module _ (g : Flow) (kept : IsGraph g) where
     -- the edge from the entry has the new ones
     pub edge_renewed : (i : ℕ) (e : Arc) (proofs : List Proof) → slice_get g.edges i ≡ Some e → e.from ≡ 0 → EdgeDone new (arc 0 1 (Enter g.params)) proofs → EdgeDone new e proofs
     edge_renewed i e proofs got is h =
-        subst (λ (z : Arc). EdgeDone new z proofs) (sym (each_got (λ e. e.from ≡ 0 → e ≡ arc 0 1 (Enter g.params)) g.edges i e kept.alone got is)) h
+        subst (λ (z : Arc). EdgeDone new z proofs) (sym (each_got (λ e. e.from ≡ 0 → e ≡ arc 0 1 (Enter g.params)) g.edges i e (to_start g kept) got is)) h
 
     abbrev Far : ℕ → List (List Proof) → Type 0
     Far = SoFar g a rows

@@ -1,5 +1,5 @@
 -- The graph of a program keeps what every graph keeps.
-use Rattle.std.proofs.Common.{◌≡◌, ℕ, ◌+◌, ◌<◌, ◌≤◌, ◌^◌, zero, suc, List, [], ◌∷◌, length, Bool, true, false, refl, ap, subst, ◌∙◌, arith, map, inl, inr}
+use Rattle.std.proofs.Common.{◌≡◌, ◌≢◌, ℕ, ◌+◌, ◌<◌, ◌≤◌, ◌^◌, zero, suc, List, [], ◌∷◌, length, Bool, true, false, refl, ap, subst, ◌∙◌, arith, map, inl, inr}
 use Rattle.std.specs.Prelude.{◌⊎◌, ◌&&◌, ◌||◌, ◌==◌, nat_le, sum}
 use Rattle.std.specs.List.{AllByRecursion as Each, list_any}
 use Rattle.std.proofs.lemmas.Bool.Decides.{nat_tests}
@@ -103,11 +103,7 @@ graph_kept p =
       bodies = ap suc f.bodies;
       tried = points_over v a.loops 0 places (each_more (IsLoop v) (λ l. Each (IsOver v) l.tried) (λ l h. h.over) a.loops f.loops);
       enters = refl;
-      alone = (
-        λ h. refl,
-        each_more (IsUp v a.next a.loops) (λ e. e.from ≡ 0 → e ≡ arc 0 1 (Enter p.names.params)) (λ e up h. let away = up.away in absurd (omega arith)) a.edges
-            (f.edges a.next a.loops (omega arith) (each_in a.loops)),
-      );
+      alone = each_more (IsUp v a.next a.loops) (λ e. e.from ≢ 0) (λ e up h. let away = up.away in omega arith) a.edges (f.edges a.next a.loops (omega arith) (each_in a.loops));
       entry = no_head v a.loops f.loops;
       leads = (
         record { leaves = omega arith; reaches = omega arith; rises = inl (omega arith); over = k.params },

@@ -18,6 +18,7 @@ pub mod Limits
 pub mod Shapes
 pub mod Counts
 pub mod Graphs
+pub mod Entries
 pub mod Turns
 pub mod Straights
 pub mod Programs

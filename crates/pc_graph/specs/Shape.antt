@@ -1,5 +1,5 @@
 -- The shape of a graph: how many points and edges it has, where edges lead, and which variables they have.
-use Rattle.std.specs.Prelude.{◌≡◌, ◌≢◌, ℕ, ◌+◌, ◌<◌, ◌≤◌, List, [], ◌∷◌, ◌⊎◌, true, false, length, Some, IfSome, slice_get}
+use Rattle.std.specs.Prelude.{◌≡◌, ◌≢◌, ℕ, ◌+◌, ◌<◌, ◌≤◌, List, [], ◌∷◌, ◌⊎◌, true, false, length, drop, Some, IfSome, slice_get}
 use Rattle.std.specs.List.{AllByRecursion as Each}
 use Rattle.pc_rows.specs.Linear.{IsOver}
 use Rattle.pc_rows.specs.declared.row.TheConstants.{VARIABLES}
@@ -38,7 +38,7 @@ pub record IsGraph (g : Flow) : Type 0 where
   pub tried : Each (λ point. Each (IsOver g.variables) point.tried) g.points
   -- edge 0 leads from the entry to the start, no other edge leaves the entry, and the entry is no head
   pub enters : slice_get g.edges 0 ≡ Some (arc 0 1 (Enter g.params))
-  pub alone : Each (λ e. e.from ≡ 0 → e ≡ arc 0 1 (Enter g.params)) g.edges
+  pub alone : Each (λ e. e.from ≢ 0) (drop 1 g.edges)
   pub entry : IfSome (slice_get g.points 0) (λ point. point.head ≡ false)
   pub leads : Each (LeadsUp g.points g.variables) g.edges
 

@@ -15,6 +15,7 @@ use Rattle.pc_graph.specs.Carry.{back_all, owes}
 use Rattle.pc_graph.specs.Exact.{Annotation}
 use Rattle.pc_graph.specs.Flow.{Flow}
 use Rattle.pc_graph.specs.Shape.{WhatIsOver, LeadsUp, IsGraph}
+use Rattle.pc_graph.proofs.Entries.{to_start}
 use Rattle.pc_lower.specs.Annotation.{rows_at, AreOver, is_head}
 use Rattle.pc_lower.specs.Need.{asked, leaving, gathered, needed_at, at_heads, filled, filled_below, need}
 use Rattle.pc_lower.specs.Laws.{NeedIsComplete}
@@ -117,7 +118,7 @@ entry_asked params a (e ∷ edges) all =
 pub entry_over : (g : Flow) (heads : List (List Linear)) → IsGraph g → Each (IsOver g.params) (rows_at (need g heads) 0)
 entry_over g heads is =
     let a = rows_at (need g heads) in
-    let all = each_leaving (λ e. e.from ≡ 0 → e ≡ arc 0 1 (Enter g.params)) 0 g.edges is.alone in
+    let all = each_leaving (λ e. e.from ≡ 0 → e ≡ arc 0 1 (Enter g.params)) 0 g.edges (to_start g is) in
     subst (Each (IsOver g.params)) (sym ((need_is g is.leads heads).needed 0 (entry_is_no_head g.points is.entry)))
     (gathered_each (IsOver g.params) a [] (leaving 0 g.edges) tt (entry_asked g.params a (leaving 0 g.edges) all))
 
