@@ -7,7 +7,6 @@ use Rattle.pc_text.specs.declared.lexeme.Form.TheVariants as form
 use Rattle.pc_text.specs.declared.lexeme.Class.{Class}
 use Rattle.pc_text.specs.declared.lexeme.Class.TheVariants.{Blank, Slash, Letter, Digit}
 use Rattle.pc_text.specs.declared.token.Kind.{Kind}
-use Rattle.pc_text.specs.declared.token.Token.{Token}
 use Rattle.pc_text.specs.declared.token.LexFault.{LexFault}
 use Rattle.pc_text.specs.declared.token.LexFault.TheVariants.{NoMemory, BadByte, LiteralTooBig, NameTooLong}
 use Rattle.pc_text.specs.declared.token.TheConstants.{LARGEST, NAME_BYTES}
@@ -20,9 +19,7 @@ use Rattle.pc_text.specs.Longest.{longest}
 use Rattle.pc_text.specs.Lex.{kind_at, with_length, piece_of, with_front, with_piece, lex_from}
 use Rattle.pc_text.specs.Answers.{FaultAt, MeansAt}
 use Rattle.pc_text.proofs.LongestLemmas.{lexeme, longest_is, longest_none}
-
-abbrev Answer : Type 0
-Answer = Result (List Token) LexFault
+use Rattle.pc_text.proofs.LexMeans.{Answer}
 
 -- ---- the longest lexeme is what `longest` gives
 

@@ -1,22 +1,18 @@
 -- Where the first line of a text ends.
-use Rattle.std.proofs.Common.{◌≡◌, ◌≤◌, ◌<◌, ℕ, suc, ◌+◌, ◌-◌, Bool, true, false, not, cond, nat_eq, [], ◌∷◌, ◌++◌, length, take, drop, refl, sym, ap, ◌∙◌, subst, arith}
+use Rattle.std.proofs.Common.{◌≡◌, ◌≤◌, ◌<◌, ℕ, suc, ◌+◌, ◌-◌, Bool, true, false, cond, nat_eq, [], ◌∷◌, ◌++◌, length, take, drop, refl, sym, ap, ◌∙◌, subst, arith}
+use Rattle.std.proofs.lemmas.Bool.{eqb-true, not-false}
 use Rattle.std.proofs.lemmas.List.{drop_all, take_all, take_rest}
 use Rattle.pc_text.specs.Bytes.{Bytes}
 use Rattle.pc_text.specs.Lexemes.{in_line, EachPasses}
 use Rattle.pc_text.specs.Longest.{run}
 use Rattle.pc_text.specs.Lines.{IsLine}
 use Rattle.pc_text.proofs.LongestLemmas.{all_run}
-use Rattle.pc_text.proofs.NumeralLengths.{equal}
-
-negated : (b : Bool) → not b ≡ false → b ≡ true
-negated true e = refl
-negated false e = absurd (cc)
 
 stop_by : (c : ℕ) (r : Bytes) (t : Bool) → in_line c ≡ t → (run in_line r < length r → r ≡ take (run in_line r) r ++ 10 ∷ drop (suc (run in_line r)) r)
     → cond t (suc (run in_line r)) 0 < suc (length r)
     → c ∷ r ≡ take (cond t (suc (run in_line r)) 0) (c ∷ r) ++ 10 ∷ drop (suc (cond t (suc (run in_line r)) 0)) (c ∷ r)
 stop_by c r true e more h = ap (λ z. c ∷ z) (more (omega arith))
-stop_by c r false e more h = ap (λ z. z ∷ r) (equal c 10 (negated (nat_eq c 10) e))
+stop_by c r false e more h = ap (λ z. z ∷ r) (eqb-true c 10 (not-false (nat_eq c 10) e))
 
 -- a line feed stands behind the bytes that are none
 stop : (b : Bytes) → run in_line b < length b → b ≡ take (run in_line b) b ++ 10 ∷ drop (suc (run in_line b)) b

@@ -1,6 +1,6 @@
 -- `longest` gives the longest lexeme.
 use Rattle.std.proofs.Common.{◌≡◌, ◌≤◌, ◌<◌, ℕ, suc, Bool, true, false, cond, nat_eq, [], ◌∷◌, ◌++◌, length, take, drop, Option, Some, None, refl, sym, ap, ◌∙◌, subst, inl, inr, arith, take-append-drop, length-take-le}
-use Rattle.std.proofs.Math.Dec.{eqb→eq, T}
+use Rattle.std.proofs.lemmas.Bool.{eqb-true}
 use Rattle.pc_text.specs.declared.lexeme.Form.{Form}
 use Rattle.pc_text.specs.declared.lexeme.Form.TheVariants as form
 use Rattle.pc_text.specs.declared.lexeme.Class.{Class}
@@ -42,7 +42,7 @@ pair_least d (b ∷ s) k h = by (nat_eq b d)
     by true = omega arith
     by false = h
 
--- a front of some form is no longer than what `first` gives
+-- a front of some form is no longer than what `longest` gives
 pub bounds : (f : Form) (v s : Bytes) → HasForm f v → AtLeast (length v) (longest (v ++ s))
 bounds f [] s h = absurd h
 bounds form.Blank (b ∷ w) s h = rw (h.0, h.1) (omega arith)
@@ -57,7 +57,7 @@ bounds form.Sign (b ∷ c ∷ []) s (inr (inl h)) = rw (h.0, h.1) (omega arith)
 bounds form.Sign (b ∷ c ∷ []) s (inr (inr h)) = rw (h.0, h.1) (omega arith)
 bounds form.Sign (b ∷ c ∷ d ∷ w) s h = absurd h
 
--- what `first` gives is a lexeme, and within the text
+-- what `longest` gives has its form, and is within the text
 abbrev pub IsFound : Bytes → Form → ℕ → Type 0
 IsFound i f n = HasForm f (take n i) × (0 < n) × (n ≤ length i)
 
@@ -70,7 +70,7 @@ pair_found b d [] o h q = h
 pair_found b d (c ∷ r) o h q = by (nat_eq c d) refl
   where
     by : (e : Bool) → nat_eq c d ≡ e → Found (b ∷ c ∷ r) (cond e (Some (form.Sign, 2)) o)
-    by true e = let same : c ≡ d = eqb→eq c d (subst T (sym e) tt) in (subst (λ z. IsPair (class b) z) (sym same) q, omega arith, omega arith)
+    by true e = (subst (λ z. IsPair (class b) z) (sym (eqb-true c d e)) q, omega arith, omega arith)
     by false e = h
 
 comment_found : (b c : ℕ) (r : Bytes) (k : Class) → class b ≡ Slash → class c ≡ k → Found (b ∷ c ∷ r) (comment_if k r)

@@ -1,8 +1,7 @@
 -- How long numerals are.
 use Rattle.std.proofs.Common.{◌≡◌, ◌≤◌, ◌<◌, ℕ, zero, suc, Bool, true, false, cond, nat_eq, nat_le, ◌&&◌, [], ◌∷◌, ◌++◌, length, take, drop, refl, sym, ap, ◌∙◌, subst, inl, inr, arith, take-append-drop, length-take-le}
 use Rattle.std.proofs.Math.Seq.{take-append_seam}
-use Rattle.std.proofs.Math.Dec.{eqb→eq, T}
-use Rattle.std.proofs.lemmas.Bool.{le-leb, leb-true}
+use Rattle.std.proofs.lemmas.Bool.{le-leb, leb-true, eqb-true}
 use Rattle.std.proofs.lemmas.Bool.Decides.{nat_tests}
 use Rattle.pc_text.specs.Bytes.{Bytes}
 use Rattle.pc_text.specs.Lexemes.{in_number, EachPasses}
@@ -12,9 +11,6 @@ use Rattle.pc_text.proofs.LongestLemmas.{run_all, all_run, run_within}
 
 pub above : (a b : ℕ) → b < a → nat_eq a b ≡ false
 above a b h = grind (arith, nat_tests)
-
-pub equal : (a b : ℕ) → nat_eq a b ≡ true → a ≡ b
-equal a b e = eqb→eq a b (subst T (sym e) tt)
 
 -- ---- no numeral at the front is longer
 
@@ -68,9 +64,9 @@ signed_by c r (suc k) (suc m) s p e =
 
 numeral_by : (c : ℕ) (r : Bytes) (k : ℕ) (t u : Bool) → nat_eq c 48 ≡ t → nat_eq c 45 ≡ u → cond t 1 (cond u (signed_len (positive_len r)) (positive_len (c ∷ r))) ≡ suc k
     → IsNumeral (take (suc k) (c ∷ r)) × (suc k ≤ length (c ∷ r))
-numeral_by c r zero true u p q e = (inl (ap (λ z. z ∷ []) (equal c 48 p)), omega arith)
+numeral_by c r zero true u p q e = (inl (ap (λ z. z ∷ []) (eqb-true c 48 p)), omega arith)
 numeral_by c r (suc k) true u p q e = absurd (omega arith)
-numeral_by c r k false true p q e = signed_by c r k (positive_len r) (equal c 45 q) refl e
+numeral_by c r k false true p q e = signed_by c r k (positive_len r) (eqb-true c 45 q) refl e
 numeral_by c r k false false p q e = let found = positive_found (c ∷ r) k e in (inr (inl found.0), found.1)
 
 numeral_found : (b : Bytes) (k : ℕ) → numeral_len b ≡ suc k → IsNumeral (take (suc k) b) × (suc k ≤ length b)

@@ -10,7 +10,7 @@ some_text : (f : Form) (w : Bytes) → HasForm f w → 0 < length w
 some_text f [] h = absurd h
 some_text f (b ∷ w) h = omega arith
 
-wider : (low at high : ℕ) (ts : List Token) → low ≤ at → AreSpans at high ts → AreSpans low high ts
+pub wider : (low at high : ℕ) (ts : List Token) → low ≤ at → AreSpans at high ts → AreSpans low high ts
 wider low at high [] h s = omega arith
 wider low at high (t ∷ ts) h (a, b, s) = (omega arith, b, s)
 
