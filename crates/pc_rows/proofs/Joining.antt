@@ -44,13 +44,13 @@ or_right : (b c : Bool) → c ≡ true → (b || c) ≡ true
 or_right true c h = refl
 or_right false c h = h
 
-and_both : (b c : Bool) → b ≡ true → c ≡ true → (b && c) ≡ true
+pub and_both : (b c : Bool) → b ≡ true → c ≡ true → (b && c) ≡ true
 and_both b c h g = rw (h, g) refl
 
-le_is : (a b : ℤ) → int_le a b ≡ true → a ≤ℤ b
+pub le_is : (a b : ℤ) → int_le a b ≡ true → a ≤ℤ b
 le_is a b h = grind (arith, ints)
 
-is_le : (a b : ℤ) → a ≤ℤ b → int_le a b ≡ true
+pub is_le : (a b : ℤ) → a ≤ℤ b → int_le a b ≡ true
 is_le a b h = grind (arith, ints)
 
 zeros_are : (cs : List ℤ) → list_all is_zero cs ≡ true → AllByRecursion (λ c. c ≡ pos 0) cs

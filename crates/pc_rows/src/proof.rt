@@ -1,7 +1,9 @@
 //! Proofs that premises show a goal.
 
 ghost use Rattle.std.specs.Prelude.{◌≡◌, ◌≢◌, ◌<◌, ◌≤◌, ℤ, pos, [], ◌∷◌, ◌++◌, length, slice_get, Some, IfOk, OnOk, OnErr};
+ghost use Rattle.std.specs.List.{list_all};
 ghost use Rattle.pc_rows.specs.Linear.{InRange};
+ghost use Rattle.pc_rows.specs.Checks.{is_usable, are_usable};
 ghost use Rattle.pc_rows.specs.Evidence.{IsAbove, IsParts, IsProof};
 
 use crate::number::Number;
@@ -80,6 +82,14 @@ impl Parts {
         }
     }
 
+    /// Whether each part names one of the first `count` premises, with a multiplier of at least 0.
+    fn are_usable(&self, count: usize) -> bool
+        ensures { result ≡ list_all (is_usable count) self.now }
+    {
+        self.parts.as_slice().iter().all(|part| (part.index as usize) < count
+            && part.multiplier.is_at_least_zero())
+    }
+
     /// The same parts, from the same allocator.
     pub fn copy(&self) -> Result<Parts, NoMemory>
         ensures { IfOk result (λ parts. parts ≡ self.now) }
@@ -134,6 +144,13 @@ impl Proof {
         ensures { result.now ≡ self.now.parts }
     {
         &self.parts
+    }
+
+    /// Whether no multiplier is negative, and each part names one of the first `count` premises.
+    pub(crate) fn is_usable(&self, count: usize) -> bool
+        ensures { result ≡ are_usable count self.now }
+    {
+        self.goal.is_at_least_zero() && self.parts.are_usable(count)
     }
 
     /// The same proof, from the allocator of its parts.

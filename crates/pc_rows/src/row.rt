@@ -6,6 +6,7 @@ ghost use Rattle.std.specs.Cmp.Lexicographic.{pointwise};
 ghost use Rattle.pc_rows.specs.Points.{SumsFit};
 ghost use Rattle.pc_rows.specs.Linear.{InRange, dot, IsInRange, IsRow, coefficient, of_constant, with_coefficient, sum_of, difference_of, scaled_by, opposite_of, above_of, first_of, is_number, negation};
 ghost use Rattle.pc_rows.specs.Joins.{is_always, is_at_most};
+ghost use Rattle.pc_rows.specs.Checks.{is_never};
 
 use crate::number::{Number, Past};
 use crate::numbers::{are_zero, first, opposites, products, sum_of_products, sums};
@@ -212,6 +213,13 @@ impl Row {
         ensures { result ≡ is_always self.now }
     {
         self.is_number() && self.constant.is_at_least_zero()
+    }
+
+    /// Whether no state meets the row by its form: it has no variable, and a constant below 0.
+    pub(crate) fn is_never(&self) -> bool
+        ensures { result ≡ is_never self.now }
+    {
+        self.is_number() && self.constant.is_at_most(Number::new(-1))
     }
 
     /// Whether the row has the coefficients of `other`, and a constant that is not greater.

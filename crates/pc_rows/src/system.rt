@@ -1,10 +1,11 @@
 //! Systems: whether premises show a goal.
 
-ghost use Rattle.std.specs.Prelude.{◌≡◌, ◌<◌, [], ◌∷◌, ◌++◌, length, slice_get, Some, OnOk, OnErr, OkIff};
+ghost use Rattle.std.specs.Prelude.{◌≡◌, ◌<◌, ◌↔◌, true, [], ◌∷◌, ◌++◌, length, slice_get, Some, OnOk, OnErr, OkIff};
 ghost use Rattle.std.specs.List.{AllByRecursion};
 ghost use Rattle.pc_rows.specs.Linear.{IsInRange, IsRow};
 ghost use Rattle.pc_rows.specs.Evidence.{IsSystem};
-ghost use Rattle.pc_rows.specs.Shows.{with_parts, total, PartsFit, TotalFits};
+ghost use Rattle.pc_rows.specs.Shows.{with_parts, total, PartsFit, TotalFits, Shows};
+ghost use Rattle.pc_rows.specs.Checks.{IsContradiction};
 
 use crate::number::Past;
 use crate::proof::{Parts, Proof};
@@ -101,6 +102,24 @@ pub fn total(s: &System, p: &Proof) -> Result<Row, Past>
 {
     let start = s.goal().negated()?.times(p.goal())?;
     with_parts(s, start, p.parts())
+}
+
+/// Whether the proof shows the goal, and its total is computed in range.
+pub fn shows(s: &System, p: &Proof) -> bool
+    ensures { (result ≡ true) ↔ (Shows s.now.premises s.now.goal p.now × TotalFits s.now.premises s.now.goal p.now) }
+{
+    p.is_usable(s.len()) && is_contradiction(s, p)
+}
+
+/// Whether the total is computed in range, and has no variable and a negative constant.
+fn is_contradiction(s: &System, p: &Proof) -> bool
+    requires { AllByRecursion (λ q. q.index < length s.now.premises) p.now.parts }
+    ensures { (result ≡ true) ↔ IsContradiction s.now.premises s.now.goal p.now }
+{
+    match total(s, p) {
+        Ok(row) => row.is_never(),
+        Err(Past) => false,
+    }
 }
 
 fn with_parts(s: &System, start: Row, parts: &Parts) -> Result<Row, Past>

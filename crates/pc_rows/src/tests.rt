@@ -83,6 +83,12 @@ fn premises_show_a_goal(rt: HostRuntime) -> Result<(), Fail> {
     assert!(rt; sum.is_number());
     assert_eq!(rt; sum.constant(), -3);
     assert_eq!(rt; proof.copy()?.parts().len(), 1);
+
+    // twice the negated goal and x - 3 leave x, and no premise shows x - 1 >= 0
+    assert!(rt; shows(&system, &proof));
+    assert!(rt; !shows(&system, &Proof::new(Number::new(2), parts.copy()?)));
+    let alone = System::new(alloc, Row::of_constant(alloc, -1).with(0, 1));
+    assert!(rt; !shows(&alone, &proof));
     Ok(())
 }
 
