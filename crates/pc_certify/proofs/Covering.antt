@@ -1,5 +1,5 @@
 -- Goals that the premises cover are proved by the negated goal and at most one premise.
-use Rattle.std.proofs.Common.{◌≡◌, ℕ, ◌+◌, ◌<◌, ℤ, pos, negsuc, ◌+ℤ◌, ◌-ℤ◌, ◌≤ℤ◌, neg_ℤ, List, [], ◌∷◌, length, get_or, refl, sym, ap, subst, ◌∙◌, arith, Bool, true, false, Option, Some, None, slice_get, Ok, Err, Result}
+use Rattle.std.proofs.Common.{◌≡◌, ℕ, ◌+◌, ℤ, pos, negsuc, ◌+ℤ◌, ◌≤ℤ◌, List, [], ◌∷◌, sym, ap, subst, ◌∙◌, arith, Bool, true, false, Option, Some, None, slice_get, Ok, Err, Result}
 use Rattle.std.specs.Prelude.{◌||◌, int_le}
 use Rattle.std.specs.List.{AllByRecursion, list_any, position_from}
 use Rattle.std.specs.Ordering.{int_eq}
@@ -8,16 +8,15 @@ use Rattle.std.specs.Cmp.Rules.{signed_items}
 use Rattle.std.proofs.lemmas.Int.{ints}
 use Rattle.std.proofs.lemmas.Option.{slice_get_within, get_or_from_slice_get}
 use Rattle.pc_rows.specs.declared.rows.NoMemory.{NoMemory}
-use Rattle.pc_rows.specs.Linear.{Linear, InRange, AllInRange, IsInRange, IsRow, IsNumber, is_number, add_lists, negate_list, negation, sum_of, scaled_by}
+use Rattle.pc_rows.specs.Linear.{Linear, InRange, AllInRange, IsInRange, IsNumber, is_number, add_lists, negate_list, negation, sum_of, scaled_by}
 use Rattle.pc_rows.specs.Joins.{IsAlways, IsAtMost, is_always, is_at_most, is_covered}
 use Rattle.pc_rows.specs.Evidence.{Proof}
-use Rattle.pc_rows.specs.Shows.{nothing_row, total, Shows, TotalFits}
+use Rattle.pc_rows.specs.Shows.{nothing_row, total}
 use Rattle.pc_rows.proofs.Algebra.{scaled_one}
 use Rattle.pc_rows.proofs.Joining.{number_is_meant}
 use Rattle.pc_rows.proofs.Ranges.{and_is}
 use Rattle.pc_replay.specs.Accepts.{Proves}
 use Rattle.pc_replay.proofs.Alls.{none_passes}
-use Rattle.pc_certify.specs.Causes.{SumIsPast, first_cover}
 use Rattle.pc_certify.specs.Proving.{alone, with_premise, ByPremise, CoveredIs}
 use Rattle.pc_certify.proofs.Positions.{position_found, none_found}
 

@@ -1,5 +1,5 @@
 -- The proofs of edges.
-use Rattle.std.proofs.Common.{◌≡◌, ℕ, ◌+◌, ◌≤◌, List, [], ◌∷◌, ◌++◌, length, map, refl, sym, ap, subst, ◌∙◌, arith, Bool, true, false, Option, Some, None, Result, Ok, Err}
+use Rattle.std.proofs.Common.{◌≡◌, ◌≤◌, List, [], ◌∷◌, ◌++◌, length, map, sym, ap, subst, ◌∙◌, arith, Bool, true, Option, Some, None, Result, Ok, Err}
 use Rattle.std.specs.List.{AllByRecursion}
 use Rattle.pc_rows.specs.declared.rows.NoMemory.{NoMemory}
 use Rattle.pc_rows.specs.declared.system.TheConstants.{PREMISES}
@@ -7,7 +7,6 @@ use Rattle.pc_rows.specs.Linear.{Linear}
 use Rattle.pc_rows.specs.Joins.{is_covered}
 use Rattle.pc_rows.specs.Evidence.{Proof}
 use Rattle.pc_graph.specs.declared.point.PointInfo.{PointInfo}
-use Rattle.pc_graph.specs.declared.what.What.{What}
 use Rattle.pc_graph.specs.Arc.{Arc}
 use Rattle.pc_graph.specs.Carry.{back, test_rows}
 use Rattle.pc_lower.specs.Annotation.{rows_at, is_head}

@@ -1,5 +1,5 @@
 -- The proofs of rows, put together from those of their goals.
-use Rattle.std.proofs.Common.{◌≡◌, List, ◌++◌, sym, subst, Bool, true, false, Option, Some, None, Result, Ok, Err, inl, inr}
+use Rattle.std.proofs.Common.{◌≡◌, List, ◌++◌, sym, subst, Bool, true, false, Option, Some, None, Result, Ok, Err, inr}
 use Rattle.std.specs.Prelude.{IfOk}
 use Rattle.pc_rows.specs.declared.rows.NoMemory.{NoMemory}
 use Rattle.pc_rows.specs.Linear.{Linear}

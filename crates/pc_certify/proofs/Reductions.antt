@@ -1,9 +1,8 @@
 -- An alternative whose rows at the entry are reduced.
-use Rattle.std.proofs.Common.{◌≡◌, ℕ, suc, ◌+◌, ◌<◌, ◌≤◌, List, [], ◌∷◌, ◌++◌, length, get_or, set, refl, sym, ap, subst, ◌∙◌, arith, inl, inr, true, Option, Some, None, Result, Ok, Err, append-nil}
-use Rattle.std.specs.Prelude.{◌⊎◌, ◌↔◌, IfOk}
+use Rattle.std.proofs.Common.{◌≡◌, ◌<◌, ◌≤◌, List, [], ◌∷◌, ◌++◌, length, set, refl, sym, ap, subst, ◌∙◌, arith, inl, inr, Option, Some, Ok}
+use Rattle.std.specs.Prelude.{◌↔◌}
 use Rattle.std.specs.List.{AllByRecursion}
 use Rattle.std.proofs.lemmas.List.{get_or-set_same, get_or-set_other}
-use Rattle.pc_rows.specs.declared.rows.NoMemory.{NoMemory}
 use Rattle.pc_rows.specs.Linear.{Linear, State, MeetsAll, IsOver}
 use Rattle.pc_rows.specs.Evidence.{Proof}
 use Rattle.pc_graph.specs.declared.what.What.TheVariants.{Enter}
@@ -49,15 +48,14 @@ module _ (g : Flow) (a : Annotated) (proved : IsProved g a) (left : List Linear)
 
   -- the rows that are left stand there instead
   pub renewed : ((s : State) → MeetsAll s (rows_at a.rows 0) ↔ MeetsAll s left) → 0 < length a.rows →
-      (found : Result Annotated NoMemory) → IfOk found (λ b. b.rows ≡ set a.rows 0 left) → IfOk found (IsProved g) → IfOk found (ReducesTo g a)
-  renewed states some (Ok b) rows right =
+      (b : Annotated) → b.rows ≡ set a.rows 0 left → IsProved g b → ReducesTo g a b
+  renewed states some b rows right =
       let here : rows_at b.rows 0 ≡ left = ap (λ (z : List (List Linear)). rows_at z 0) rows ∙ get_or-set_same a.rows 0 left [] some in
       record {
         proved = right;
         rows = (left, thin, inl here);
         states = λ s. subst (λ (z : List Linear). MeetsAll s (rows_at a.rows 0) ↔ MeetsAll s z) (sym here) (states s);
       }
-  renewed states some (Err e) rows right = tt
 
   pub renewed_edge : (o : Option (List Proof)) (proofs : List Proof) → 0 < length a.rows → o ≡ Some proofs → RenewedIs g.params left (rows_at a.rows 1) (Ok o) →
       EdgeDone (set a.rows 0 left) (arc 0 1 (Enter g.params)) proofs

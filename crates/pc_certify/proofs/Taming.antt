@@ -1,12 +1,11 @@
 -- On a tame graph without loops all that is computed for the proofs is in range.
-use Rattle.std.proofs.Common.{◌≡◌, ℕ, zero, suc, ◌+◌, ◌*◌, ◌^◌, ◌<◌, ◌≤◌, ℤ, pos, negsuc, ◌+ℤ◌, ◌-ℤ◌, ◌*ℤ◌, neg_ℤ, List, [], ◌∷◌, ◌++◌, length, get_or, set, refl, sym, ap, subst, ◌∙◌, arith, Bool, true, false, cond, Option, Some, None, inl, inr}
-use Rattle.std.specs.Prelude.{◌⊎◌}
+use Rattle.std.proofs.Common.{◌≡◌, ℕ, zero, suc, ◌+◌, ◌*◌, ◌^◌, ◌<◌, ◌≤◌, ℤ, pos, negsuc, ◌+ℤ◌, ◌*ℤ◌, neg_ℤ, List, [], ◌∷◌, set, subst, arith, Bool, true, false, cond, Some, inl, inr}
 use Rattle.std.specs.List.{AllByRecursion, find}
 use Rattle.std.proofs.lemmas.Int.{ints}
-use Rattle.pc_rows.specs.Linear.{Linear, InRange, IsInRange, coefficient, is_zero, add_lists, scale_list, negate_list, zero_from, negation}
+use Rattle.pc_rows.specs.Linear.{Linear, IsInRange, coefficient, is_zero, add_lists, scale_list, negate_list, zero_from, negation}
 use Rattle.pc_rows.specs.Bounds.{IsWithin, AreWithin, Within, AllWithin}
 use Rattle.pc_rows.specs.Joins.{is_at_most}
-use Rattle.pc_rows.specs.Substitution.{carried, substituted, lesser}
+use Rattle.pc_rows.specs.Substitution.{carried, lesser}
 use Rattle.pc_rows.proofs.Bounding.{product_within, sum_within, opposite_within, lesser_within, within_in_range, all_in_range, more_within, scale_within, add_within, negate_within, at_within, set_within, small_substitution_fits}
 use Rattle.pc_rows.proofs.Joining.{each_join}
 use Rattle.pc_syntax.specs.Machine.{end_of}
@@ -16,12 +15,12 @@ use Rattle.pc_graph.specs.Arc.{Arc}
 use Rattle.pc_graph.specs.Carry.{BackFits, back, test_rows}
 use Rattle.pc_graph.specs.Flow.{Flow}
 use Rattle.pc_graph.specs.Lists.{AnyOf}
-use Rattle.pc_lower.specs.Annotation.{rows_at, no_rows, is_head, NoHeads}
+use Rattle.pc_lower.specs.Annotation.{rows_at, no_rows, NoHeads}
 use Rattle.pc_lower.specs.Need.{need}
 use Rattle.pc_lower.specs.Tame.{tame_bound, HasTameNumbers, AreTame, IsTame}
 use Rattle.pc_lower.proofs.Paying.{no_head}
 use Rattle.pc_replay.specs.Flaws.{asked}
-use Rattle.pc_certify.specs.Causes.{premises, first_cover, SumIsPast, IsPast, RowFails, EdgeFails, Fails}
+use Rattle.pc_certify.specs.Causes.{premises, RowFails, EdgeFails, Fails}
 
 -- rows carried back
 

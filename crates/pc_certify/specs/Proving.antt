@@ -10,7 +10,7 @@ use Rattle.pc_graph.specs.declared.what.What.TheVariants.{Enter}
 use Rattle.pc_graph.specs.Arc.{Arc}
 use Rattle.pc_graph.specs.Flow.{Flow}
 use Rattle.pc_graph.specs.Lists.{AnyOf}
-use Rattle.pc_lower.specs.Annotation.{rows_at, is_head}
+use Rattle.pc_lower.specs.Annotation.{rows_at}
 use Rattle.pc_cert.specs.declared.certificate.Annotated.{Annotated}
 use Rattle.pc_replay.specs.Accepts.{Proves, RowProved}
 use Rattle.pc_replay.specs.Flaws.{asked}

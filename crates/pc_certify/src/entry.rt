@@ -8,11 +8,10 @@ ghost use Rattle.pc_graph.specs.Arc.{arc};
 ghost use Rattle.pc_graph.specs.Shape.{IsGraph};
 ghost use Rattle.pc_lower.specs.Annotation.{rows_at};
 ghost use Rattle.pc_certify.specs.Claims.{IsProved};
-ghost use Rattle.pc_certify.specs.Proving.{EdgeDone, RowsAre, RenewedIs};
+ghost use Rattle.pc_certify.specs.Proving.{EdgeDone, RenewedIs};
 ghost use Rattle.pc_certify.specs.Inferring.{ReducesTo};
 
 use crate::edge::asked_proofs;
-use crate::lists::push;
 use pc_cert::Annotated;
 use pc_entail::reduce;
 use pc_graph::{Edge, Graph};
@@ -35,7 +34,7 @@ pub fn reduced(alloc: Global, g: &Graph, a: Annotated) -> Result<Annotated, NoMe
         return Ok(a);
     }
     match entry_proofs(alloc, g, &left, rows_at(&a.rows, 1))? {
-        Some(proofs) => replaced(alloc, g, a, left, &proofs),
+        Some(proofs) => Ok(replaced(g, a, left, proofs)),
         None => Ok(a),
     }
 }
@@ -66,36 +65,15 @@ fn entry_proofs(
 }
 
 /// The alternative with other rows at the entry, and other proofs of the edge from it.
-fn replaced(
-    alloc: Global,
-    g: &Graph,
-    mut a: Annotated,
-    rows: Rows,
-    proofs: &Items<Proof>,
-) -> Result<Annotated, NoMemory>
+fn replaced(g: &Graph, mut a: Annotated, rows: Rows, proofs: Items<Proof>) -> Annotated
     requires proved { IsProved g.now a }
     requires over { AllByRecursion (IsOver g.now.params) rows }
-    requires done { EdgeDone (slice_set a.rows 0 rows) (arc 0 1 (Enter g.now.params)) proofs.now }
-    ensures rows { IfOk result (λ b. b.rows ≡ slice_set a.rows 0 rows) }
-    ensures proved { IfOk result (IsProved g.now) }
+    requires done { EdgeDone (slice_set a.rows 0 rows) (arc 0 1 (Enter g.now.params)) proofs }
+    ensures rows { result.rows ≡ slice_set a.rows 0 rows }
+    ensures proved { IsProved g.now result }
 {
     let _start = entry_edge(g);
     a.rows.set(0, rows);
-    for i in 0..g.edges() {
-        if g.edge(i).from == 0 {
-            a.proofs.set(i as usize, copies(alloc, proofs)?);
-        }
-    }
-    Ok(a)
-}
-
-/// The same proofs.
-fn copies(alloc: Global, proofs: &Items<Proof>) -> Result<Items<Proof>, NoMemory>
-    ensures { IfOk result (λ copies. copies ≡ proofs.now) }
-{
-    let mut all = Items::new(alloc);
-    for proof in proofs.as_slice() {
-        push(&mut all, proof.copy()?)?;
-    }
-    Ok(all)
+    a.proofs.set(0, proofs);
+    a
 }

@@ -1,4 +1,4 @@
-use Rattle.std.proofs.Common.{◌≡◌, ℕ, sym, ap, subst, ◌∙◌, slice_get}
+use Rattle.std.proofs.Common.{◌≡◌, ℕ, ap, subst, ◌∙◌, slice_get}
 use Rattle.std.specs.Prelude.{IfSome}
 use Rattle.pc_graph.specs.Arc.{Arc}
 use Rattle.pc_lower.specs.Annotation.{rows_at}
