@@ -1,4 +1,5 @@
 -- What holds of a parser and its language, at one depth of nesting and at the next.
+pub use Rattle.std.proofs.Common.{append-nil}
 use Rattle.std.proofs.Common.{◌≡◌, ℕ, zero, suc, Bool, true, false, cond, List, [], ◌∷◌, ◌++◌, length, Option, Some, None, ◌⊎◌, inl, inr, refl, sym, ap, ◌∙◌, subst, append_assoc, arith, ◌≤◌, ◌<◌, length-append}
 use Rattle.pc_grammar.specs.declared.symbol.Symbol.{Symbol}
 use Rattle.pc_grammar.specs.Combinators.{Text, Fault, Syntax, Out, Got, Stops, Parser, Lang, Class, starts, token_if, token, is_token, and_then, map_out, both, is_both, map_parser, is_map, either, is_either, maybe, is_maybe, many_from, many, is_many, shut_if, shut, none, is_dead}
@@ -40,10 +41,6 @@ pub record Laws {A : Type 0} (c : Class) (L L' : Lang A) (p p' : Parser A) : Typ
   pub complete : (a : A) (w : Text) → L a w → p w ≡ Got a []
   pub grows : (a : A) (w : Text) → L a w → L' a w
   pub example : (a : A) × (w : Text) × L' a w
-
-pub append-nil : {X : Type 0} (xs : List X) → xs ++ [] ≡ xs
-append-nil [] = refl
-append-nil (x ∷ xs) = ap (λ ys. x ∷ ys) (append-nil xs)
 
 pub same-refl : (r : Text) → Same r r
 same-refl [] = tt

@@ -1,5 +1,5 @@
 -- What the counts say of a text and its fronts.
-use Rattle.std.proofs.Common.{◌≡◌, ◌≤◌, ◌<◌, ℕ, [], ◌∷◌, ◌++◌, length, Option, Some, None, Result, Ok, Err, refl, sym, ap, ◌∙◌, subst, append_assoc, ◌⊎◌, inl, inr, arith, length-append}
+use Rattle.std.proofs.Common.{◌≡◌, ◌≤◌, [], ◌∷◌, ◌++◌, length, Option, Some, None, Result, Ok, Err, refl, sym, ap, ◌∙◌, subst, append_assoc, ◌⊎◌, inl, inr, arith, length-append}
 use Rattle.pc_grammar.specs.declared.symbol.Symbol.{Symbol}
 use Rattle.pc_grammar.specs.declared.fault.ParseFault.{ParseFault}
 use Rattle.pc_grammar.specs.declared.fault.ParseFault.TheVariants.{TooDeep, TooLong}
@@ -7,7 +7,7 @@ use Rattle.pc_grammar.specs.declared.limits.Counts.{Counts}
 use Rattle.pc_grammar.specs.declared.limits.Past.{Past}
 use Rattle.pc_grammar.specs.Combinators.{Text}
 use Rattle.pc_grammar.specs.Limits.{or_else, braces_after, signs_after, ands_after, is_sign, counted, and_on, counts, start, Within, FirstPast, one_later, past_or, first_past}
-use Rattle.std.proofs.lemmas.Bool.{cases_order}
+use Rattle.std.proofs.lemmas.Bool.{cases_lt}
 use Rattle.pc_grammar.proofs.Combinators.{append-nil}
 
 -- ---- the counts go on from one text to the next
@@ -40,17 +40,11 @@ cut (s ∷ u) (t ∷ v) r q e l =
     let x = cut u v r q rest (omega arith) in
     (x.0, ap (λ z. t ∷ z) x.1 ∙ ap (λ z. z ∷ (u ++ x.0)) (sym same), x.2)
 
-pub at_most_or_more : (a b : ℕ) → (a ≤ b) ⊎ (b < a)
-at_most_or_more a b = elim (cases_order a b) [
-  | inl e ↦ inl (omega arith)
-  | inr h ↦ elim h [ inl l ↦ inl (omega arith) | inr l ↦ inr l ]
-]
-
 -- what stands before the first symbol past a limit is the longest front within the limits
 pub before_past : (a b u v : Text) (s : Symbol) (f : ParseFault) → FirstPast u s v f → Within a b → a ++ b ≡ u ++ s ∷ v → length a ≤ length u
-before_past a b u v s f (c, m, p) (d, w) e = elim (at_most_or_more (length a) (length u)) [
-  | inl l ↦ l
-  | inr l ↦ longer (cut u a (s ∷ v) b (sym e) (omega arith))
+before_past a b u v s f (c, m, p) (d, w) e = elim (cases_lt (length u) (length a)) [
+  | inr l ↦ l
+  | inl l ↦ longer (cut u a (s ∷ v) b (sym e) (omega arith))
 ]
   where
     longer : ((w : Text) × (a ≡ u ++ w) × (s ∷ v ≡ w ++ b)) → length a ≤ length u

@@ -1,5 +1,6 @@
 -- Classes of symbols as lists of terminals: what is apart and what is within, by computation; and with what the words of a language begin.
-use Rattle.std.proofs.Common.{◌≡◌, Bool, true, false, not, ◌&&◌, ◌||◌, nat_eq, List, [], ◌∷◌, ◌++◌, Option, Some, None, refl, sym, ap, ◌∙◌, subst, ◌⊎◌, inl, inr, eqb→eq, T}
+use Rattle.std.proofs.Common.{◌≡◌, Bool, true, false, not, ◌&&◌, ◌||◌, nat_eq, List, [], ◌∷◌, ◌++◌, Option, Some, None, refl, ap, ◌∙◌, inl, inr}
+use Rattle.std.proofs.lemmas.Bool.{and_parts, or_cases, not-true, eqb-true, false_from_ne_true}
 use Rattle.pc_grammar.specs.declared.symbol.Symbol.{Symbol}
 use Rattle.pc_grammar.specs.declared.symbol.Terminal.{Terminal}
 use Rattle.pc_grammar.specs.Combinators.{Text, Lang, Class, none, is_map, is_both, is_either, is_maybe, is_many}
@@ -14,44 +15,25 @@ abbrev pub within : List Terminal → List Terminal → Bool
 within [] js = true
 within (k ∷ ks) js = has js k && within ks js
 
-and_left : (a b : Bool) → a && b ≡ true → a ≡ true
-and_left true b h = refl
-and_left false b h = absurd (cc)
-
-and_right : (a b : Bool) → a && b ≡ true → b ≡ true
-and_right true b h = h
-and_right false b h = absurd (cc)
-
-not_true : (a : Bool) → not a ≡ true → a ≡ false
-not_true true h = absurd (cc)
-not_true false h = refl
-
-or_cases : (a b : Bool) → a || b ≡ true → (a ≡ true) ⊎ (b ≡ true)
-or_cases true b h = inl refl
-or_cases false b h = inr h
-
 -- a class knows a terminal by its code alone
 alike : (js : List Terminal) (c k : Terminal) → code c ≡ code k → has js c ≡ has js k
 alike [] c k e = refl
 alike (j ∷ js) c k e = ap (λ n. nat_eq n (code j) || has js c) e ∙ ap (λ b. nat_eq (code k) (code j) || b) (alike js c k e)
 
-same_code : (c k : Terminal) → nat_eq (code c) (code k) ≡ true → code c ≡ code k
-same_code c k e = eqb→eq (code c) (code k) (subst T (sym e) tt)
-
 has_apart : (ks js : List Terminal) (c : Terminal) → apart ks js ≡ true → has ks c ≡ true → has js c ≡ false
 has_apart [] js c d h = absurd (cc)
 has_apart (k ∷ ks) js c d h =
     elim (or_cases (nat_eq (code c) (code k)) (has ks c) h) [
-      | inl e ↦ alike js c k (same_code c k e) ∙ not_true (has js k) (and_left _ (apart ks js) d)
-      | inr e ↦ has_apart ks js c (and_right (not (has js k)) _ d) e
+      | inl e ↦ alike js c k (eqb-true (code c) (code k) e) ∙ not-true (has js k) (and_parts _ (apart ks js) d).0
+      | inr e ↦ has_apart ks js c (and_parts (not (has js k)) _ d).1 e
     ]
 
 has_within : (ks js : List Terminal) (c : Terminal) → within ks js ≡ true → has ks c ≡ true → has js c ≡ true
 has_within [] js c d h = absurd (cc)
 has_within (k ∷ ks) js c d h =
     elim (or_cases (nat_eq (code c) (code k)) (has ks c) h) [
-      | inl e ↦ alike js c k (same_code c k e) ∙ and_left (has js k) (within ks js) d
-      | inr e ↦ has_within ks js c (and_right (has js k) _ d) e
+      | inl e ↦ alike js c k (eqb-true (code c) (code k) e) ∙ (and_parts (has js k) (within ks js) d).0
+      | inr e ↦ has_within ks js c (and_parts (has js k) _ d).1 e
     ]
 
 -- a text that begins with one class does not go on with the other
@@ -66,14 +48,10 @@ pub wider : (ks js : List Terminal) → within ks js ≡ true → (v : Text) →
 wider ks js d [] b = absurd (cc)
 wider ks js d (t ∷ v) b = has_within ks js t.terminal d b
 
-bool_false : (a : Bool) → (a ≡ true → ⊥) → a ≡ false
-bool_false true h = absurd (h refl)
-bool_false false h = refl
-
 -- what ends the larger class ends the smaller
 pub fewer : (ks js : List Terminal) → within ks js ≡ true → (r : Text) → Ends (among js) r → Ends (among ks) r
 fewer ks js d [] e = refl
-fewer ks js d (t ∷ r) e = bool_false (among ks t) (λ h. let both = has_within ks js t.terminal d h in absurd (cc))
+fewer ks js d (t ∷ r) e = false_from_ne_true (among ks t) (λ h. let both = has_within ks js t.terminal d h in absurd (cc))
 
 pub none_ends : (r : Text) → Ends none r
 none_ends [] = refl

@@ -4,6 +4,7 @@ use Rattle.std.proofs.lemmas.List.{drop_more, take_more, map-append}
 use Rattle.pc_text.specs.declared.token.Token.{Token}
 use Rattle.pc_text.specs.Bytes.{Bytes}
 use Rattle.pc_text.specs.Lexemes.{AreSpans}
+use Rattle.pc_text.proofs.Spans.{wider}
 use Rattle.pc_grammar.specs.Symbols.{symbol_of, symbols_of}
 
 -- a token that stands first
@@ -18,12 +19,8 @@ ends_within : (low high : ℕ) (ts : List Token) → AreSpans low high ts → lo
 ends_within low high [] h = h
 ends_within low high (t ∷ ts) (a, b, c) = let e = ends_within t.to high ts c in omega arith
 
-earlier : (low at high : ℕ) (ts : List Token) → low ≤ at → AreSpans at high ts → AreSpans low high ts
-earlier low at high [] l h = omega arith
-earlier low at high (t ∷ ts) l (a, b, c) = (omega arith, b, c)
-
 first_of : (low high : ℕ) (t : Token) (ts : List Token) → AreSpans low high (t ∷ ts) → First low high t ts
-first_of low high t ts (a, b, c) = let e = ends_within t.to high ts c in record { begins = a; inside = omega arith; within = e; holds = b; rest = earlier t.«from» t.to high ts (omega arith) c }
+first_of low high t ts (a, b, c) = let e = ends_within t.to high ts c in record { begins = a; inside = omega arith; within = e; holds = b; rest = wider t.«from» t.to high ts (omega arith) c }
 
 pub first_at : (low high k : ℕ) (ts : List Token) (d : Token) → k < length ts → AreSpans low high (drop k ts) → First low high (get_or ts k d) (drop (k + 1) ts)
 first_at low high k ts d l h = first_of low high (get_or ts k d) (drop (k + 1) ts) (subst (λ z. AreSpans low high z) (drop_more ts k d l) h)

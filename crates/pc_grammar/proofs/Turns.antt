@@ -1,5 +1,5 @@
 -- The loops of the descent, each with what it has gathered so far.
-use Rattle.std.proofs.Common.{◌≡◌, ℕ, zero, suc, ◌<◌, ◌-◌, true, false, List, [], ◌∷◌, ◌++◌, length, Some, None, refl, sym, ap, append_assoc, arith}
+use Rattle.std.proofs.Common.{◌≡◌, ℕ, zero, suc, ◌<◌, ◌-◌, true, false, List, [], ◌∷◌, ◌++◌, length, Some, None, refl, sym, append_assoc, append-nil, arith}
 use Rattle.pc_grammar.specs.declared.symbol.Symbol.{Symbol}
 use Rattle.pc_grammar.specs.declared.symbol.Terminal.TheVariants as terminal
 use Rattle.pc_grammar.specs.declared.tree.ExprTree.{ExprTree}
@@ -48,10 +48,6 @@ sums_got n = gathered_got sums sum (λ b. refl) (λ b a xs. refl) (among signs) 
 
 abbrev pub put_seconds : {A : Type 0} → List A → List (Symbol × A) → List A
 put_seconds found ys = found ++ seconds ys
-
-append-nil : {A : Type 0} (xs : List A) → xs ++ [] ≡ xs
-append-nil [] = refl
-append-nil (x ∷ xs) = ap (λ ys. x ∷ ys) (append-nil xs)
 
 put_more : {A : Type 0} (found : List A) (y : Symbol × A) (ys : List (Symbol × A)) → put_seconds found (y ∷ ys) ≡ put_seconds (found ++ y.1 ∷ []) ys
 put_more found y ys = sym (append_assoc found (y.1 ∷ []) (seconds ys))

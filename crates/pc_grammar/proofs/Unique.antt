@@ -1,5 +1,6 @@
 -- Symbols have one answer at most.
 use Rattle.std.proofs.Common.{◌≡◌, ◌≤◌, [], ◌∷◌, ◌++◌, length, Result, Ok, Err, refl, sym, ap, ◌∙◌, subst, append_assoc, inl, inr, arith, length-append}
+use Rattle.std.proofs.lemmas.Bool.{cases_lt}
 use Rattle.pc_text.specs.declared.place.Place.{Place}
 use Rattle.pc_grammar.specs.declared.symbol.Symbol.{Symbol}
 use Rattle.pc_grammar.specs.declared.tree.ProgramTree.{ProgramTree}
@@ -12,7 +13,7 @@ use Rattle.pc_grammar.specs.Parsing.{BeginsProgram, Breaks, place_at, IsSyntax, 
 use Rattle.pc_grammar.proofs.Combinators.{append-nil}
 use Rattle.pc_grammar.proofs.Programs.{program_laws}
 use Rattle.pc_grammar.proofs.Whole.{one_tree}
-use Rattle.pc_grammar.proofs.Scans.{cut, at_most_or_more, before_past}
+use Rattle.pc_grammar.proofs.Scans.{cut, before_past}
 use Rattle.pc_grammar.proofs.Sound.{sound}
 
 -- a front of what begins a program begins one
@@ -58,9 +59,9 @@ syntax_order i end p q x y l =
     x.at ∙ ap (λ z. place_at z end) rests ∙ sym y.at
 
 syntax_syntax : (i : Text) (end p q : Place) (x : IsSyntax i end p) (y : IsSyntax i end q) → p ≡ q
-syntax_syntax i end p q x y = elim (at_most_or_more (length x.before) (length y.before)) [
-  | inl l ↦ syntax_order i end p q x y l
-  | inr l ↦ sym (syntax_order i end q p y x (omega arith))
+syntax_syntax i end p q x y = elim (cases_lt (length y.before) (length x.before)) [
+  | inr l ↦ syntax_order i end p q x y l
+  | inl l ↦ sym (syntax_order i end q p y x (omega arith))
 ]
 
 syntax_past : (i : Text) (end p : Place) (f : ParseFault) → IsSyntax i end p → IsPast i f → ⊥

@@ -1,7 +1,7 @@
 //! A cursor over symbols. Where the descent stops at a fault, the cursor stands at the symbol at
 //! fault, or at the end of the text: so no error carries a place.
 
-ghost use Rattle.std.specs.Prelude.{◌≡◌, ◌+◌, ◌≤◌, length, OnOk};
+ghost use Rattle.std.specs.Prelude.{◌≡◌, ◌+◌, ◌≤◌, length, OnOk, IfErr};
 ghost use Rattle.pc_grammar.specs.Combinators.{starts, token};
 ghost use Rattle.pc_grammar.specs.Terminals.{among, the, one, one_of, has};
 ghost use Rattle.pc_grammar.specs.Terminals as spec;
@@ -54,6 +54,7 @@ impl<'a> Cursor<'a> {
         ensures reads { Reads (one terminal self.old.rest.now) result self.new.rest.now }
         ensures shorter { OnOk result (length self.new.rest.now + 1 ≡ length self.old.rest.now) }
         ensures shrinks { length self.new.rest.now ≤ length self.old.rest.now }
+        ensures fault { IfErr result (λ e. e ≡ Stop.Syntax) }
     {
         match self.rest {
             [s, rest @ ..] if code(s.terminal) == code(terminal) => {
@@ -79,6 +80,7 @@ impl<'a> Cursor<'a> {
         ensures reads { Reads (one_of signs self.old.rest.now) result self.new.rest.now }
         ensures shorter { OnOk result (length self.new.rest.now + 1 ≡ length self.old.rest.now) }
         ensures shrinks { length self.new.rest.now ≤ length self.old.rest.now }
+        ensures fault { IfErr result (λ e. e ≡ Stop.Syntax) }
     {
         match self.rest {
             [s, rest @ ..] if is_sign(s.terminal) => {
@@ -94,6 +96,7 @@ impl<'a> Cursor<'a> {
         ensures reads { Reads (one_of operators self.old.rest.now) result self.new.rest.now }
         ensures shorter { OnOk result (length self.new.rest.now + 1 ≡ length self.old.rest.now) }
         ensures shrinks { length self.new.rest.now ≤ length self.old.rest.now }
+        ensures fault { IfErr result (λ e. e ≡ Stop.Syntax) }
     {
         match self.rest {
             [s, rest @ ..] if is_operator(s.terminal) => {
@@ -155,32 +158,28 @@ fn code(terminal: Terminal) -> u8
 fn is_sign(terminal: Terminal) -> bool
     ensures { result ≡ has signs terminal }
 {
-    match terminal {
-        Terminal::Plus | Terminal::Minus => true,
-        _ => false,
-    }
+    matches!(terminal, Terminal::Plus | Terminal::Minus)
 }
 
 fn is_operator(terminal: Terminal) -> bool
     ensures { result ≡ has operators terminal }
 {
-    match terminal {
+    matches!(
+        terminal,
         Terminal::Less
-        | Terminal::AtMost
-        | Terminal::Greater
-        | Terminal::AtLeast
-        | Terminal::Equal
-        | Terminal::Unequal => true,
-        _ => false,
-    }
+            | Terminal::AtMost
+            | Terminal::Greater
+            | Terminal::AtLeast
+            | Terminal::Equal
+            | Terminal::Unequal
+    )
 }
 
 fn is_first_of_stmt(terminal: Terminal) -> bool
     ensures { result ≡ has begins_stmt terminal }
 {
-    match terminal {
-        Terminal::Name | Terminal::If | Terminal::While | Terminal::Assert | Terminal::Assume =>
-            true,
-        _ => false,
-    }
+    matches!(
+        terminal,
+        Terminal::Name | Terminal::If | Terminal::While | Terminal::Assert | Terminal::Assume
+    )
 }

@@ -43,33 +43,33 @@ pub struct Past {
 fn is_keyword(terminal: Terminal) -> bool
     ensures { result ≡ has spec.keywords terminal }
 {
-    match terminal {
+    matches!(
+        terminal,
         Terminal::Entry
-        | Terminal::Var
-        | Terminal::If
-        | Terminal::Else
-        | Terminal::While
-        | Terminal::Try
-        | Terminal::Assert
-        | Terminal::Assume => true,
-        _ => false,
-    }
+            | Terminal::Var
+            | Terminal::If
+            | Terminal::Else
+            | Terminal::While
+            | Terminal::Try
+            | Terminal::Assert
+            | Terminal::Assume
+    )
 }
 
 /// Whether the terminal may stand in an expression.
 fn is_of_expression(terminal: Terminal) -> bool
     ensures { result ≡ has spec.of_expressions terminal }
 {
-    match terminal {
+    matches!(
+        terminal,
         Terminal::Name
-        | Terminal::Number
-        | Terminal::OpenParen
-        | Terminal::CloseParen
-        | Terminal::Plus
-        | Terminal::Minus
-        | Terminal::Star => true,
-        _ => false,
-    }
+            | Terminal::Number
+            | Terminal::OpenParen
+            | Terminal::CloseParen
+            | Terminal::Plus
+            | Terminal::Minus
+            | Terminal::Star
+    )
 }
 
 /// Whether a choice comes next.
@@ -77,10 +77,7 @@ fn begins_choice(rest: &[Symbol]) -> bool
     ensures { result ≡ starts (the Terminal.OpenBracket) rest.now }
 {
     match rest.first() {
-        Some(next) => match next.terminal {
-            Terminal::OpenBracket => true,
-            _ => false,
-        },
+        Some(next) => matches!(next.terminal, Terminal::OpenBracket),
         None => false,
     }
 }

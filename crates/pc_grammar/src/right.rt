@@ -1,6 +1,6 @@
 //! The descent through choices and right sides.
 
-ghost use Rattle.std.specs.Prelude.{◌≡◌, ◌<◌, ◌+◌, ◌≤◌, length, OnOk};
+ghost use Rattle.std.specs.Prelude.{◌≡◌, ◌<◌, ◌+◌, ◌≤◌, length, OnOk, IfErr};
 ghost use Rattle.pc_grammar.specs.Combinators.{map_out};
 ghost use Rattle.pc_grammar.specs.Expressions.{paren};
 ghost use Rattle.pc_grammar.specs.Rights as spec;
@@ -24,6 +24,7 @@ fn opposite(number: i128) -> i128
 fn bound(cursor: &mut Cursor<'_>) -> Result<Bound, Stop>
     ensures reads { Reads (spec.bound cursor.old.rest.now) result cursor.new.rest.now }
     ensures shrinks { length cursor.new.rest.now ≤ length cursor.old.rest.now }
+    ensures fault { IfErr result (λ e. e ≡ Stop.Syntax) }
 {
     if cursor.sees(Terminal::Minus) {
         cursor.take(Terminal::Minus)?;
@@ -39,6 +40,7 @@ fn bound(cursor: &mut Cursor<'_>) -> Result<Bound, Stop>
 fn choice(cursor: &mut Cursor<'_>) -> Result<Choice, Stop>
     ensures reads { Reads (spec.choice cursor.old.rest.now) result cursor.new.rest.now }
     ensures shrinks { length cursor.new.rest.now ≤ length cursor.old.rest.now }
+    ensures fault { IfErr result (λ e. e ≡ Stop.Syntax) }
 {
     let open = cursor.take(Terminal::OpenBracket)?;
     let lo = bound(cursor)?;
