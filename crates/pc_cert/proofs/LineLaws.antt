@@ -4,6 +4,7 @@ use Rattle.std.proofs.Math.Seq.{set-append_seam}
 use Rattle.std.proofs.lemmas.List.{append-nil, length-map}
 use Rattle.std.specs.Prelude.{◌&&◌}
 use Rattle.std.specs.List.{list_all}
+use Rattle.std.proofs.lemmas.Bool.{and_parts}
 use Rattle.pc_rows.specs.declared.proof.Part.{Part}
 use Rattle.pc_rows.specs.declared.row.TheConstants.{VARIABLES}
 use Rattle.pc_rows.specs.Linear.{Linear, in_range, of_constant, with_coefficient}
@@ -16,7 +17,6 @@ use Rattle.pc_cert.specs.declared.fault.CertFault.TheVariants as fault
 use Rattle.pc_cert.specs.declared.words.Word.TheVariants as word
 use Rattle.pc_cert.specs.Words.{Words, is_count, is_numeral, are_numerals, are_pairs}
 use Rattle.pc_cert.specs.Faults.{Row, Proof as ProofLine, pairs_keep, part_keeps}
-use Rattle.pc_cert.proofs.Numerals.{and_is}
 use Rattle.pc_cert.specs.Readers.{◌>>=◌, unless_fault, line_value, row_value, parts_value, proof_value}
 use Rattle.pc_cert.specs.LineReaders.{broken, number_by, row_from, row_of, parts_from, proof_of}
 
@@ -73,7 +73,7 @@ numerals_long : (k : ℕ) (ws : Words) → are_numerals k ws ≡ true → length
 numerals_long zero [] h = refl
 numerals_long zero (w ∷ ws) h = absurd (cc)
 numerals_long (suc k) [] h = absurd (cc)
-numerals_long (suc k) (w ∷ ws) h = let more = numerals_long k ws (and_is (is_numeral w) (are_numerals k ws) h).1 in omega arith
+numerals_long (suc k) (w ∷ ws) h = let more = numerals_long k ws (and_parts (is_numeral w) (are_numerals k ws) h).1 in omega arith
 
 row_set : (v : ℕ) (c : ℤ) (ws : Words) → v ≤ VARIABLES → length ws ≡ v →
     set_all 0 (of_constant c) (map integer_of ws) ≡ linear c (map integer_of ws ++ replicate (VARIABLES - v) (pos 0))
@@ -100,7 +100,7 @@ row_is v n (w ∷ ws) h =
     number_first (is_numeral w) (in_range (integer_of w)) (are_numerals v ws) (list_all in_range (map integer_of ws)) (integer_of w) n ws (λ x. row_from n 0 v (of_constant x.0) x.1) _
     (row_from_is n 0 v (of_constant (integer_of w)) ws)
     ∙ judged_same (is_numeral w && are_numerals v ws) (in_range (integer_of w) && list_all in_range (map integer_of ws)) n _ (row_value v (w ∷ ws))
-    (λ e. row_set v (integer_of w) ws h (numerals_long v ws (and_is (is_numeral w) (are_numerals v ws) e).1))
+    (λ e. row_set v (integer_of w) ws h (numerals_long v ws (and_parts (is_numeral w) (are_numerals v ws) e).1))
     ∙ judged_is (is_numeral w && are_numerals v ws) (in_range (integer_of w) && list_all in_range (map integer_of ws)) n (row_value v (w ∷ ws))
 
 -- ---- proofs

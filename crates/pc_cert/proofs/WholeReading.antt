@@ -3,6 +3,7 @@ use Rattle.std.proofs.Common.{◌≡◌, ◌∙◌, refl, ap, sym, subst, ℕ, �
 use Rattle.std.specs.Prelude.{◌&&◌}
 use Rattle.std.specs.List.{AllByRecursion}
 use Rattle.std.proofs.lemmas.List.{append-nil}
+use Rattle.std.proofs.lemmas.Bool.{and_parts}
 use Rattle.pc_rows.specs.declared.system.TheConstants.{PREMISES}
 use Rattle.pc_rows.specs.Linear.{Linear, IsRow, IsOver}
 use Rattle.pc_rows.specs.Joins.{IsRows}
@@ -18,7 +19,7 @@ use Rattle.pc_cert.specs.Faults.{Version, Graph, sizes_of}
 use Rattle.pc_cert.specs.Readers.{◌>>=◌, Unread, read_line, alternatives_reader, whole, certificate_reader}
 use Rattle.pc_cert.specs.CertificateTexts.{version_line, certificate_lines}
 use Rattle.pc_cert.proofs.WordLists.{joined}
-use Rattle.pc_cert.proofs.Numerals.{and_is, empty_is}
+use Rattle.pc_cert.proofs.Numerals.{empty_is}
 use Rattle.pc_cert.proofs.RowSpelling.{IsRowOver}
 use Rattle.pc_cert.proofs.HeadSpelling.{AreWithin, graph_line, version_spelled, sizes_spelled}
 use Rattle.pc_cert.proofs.LineReading.{unread_of, ok_same, line_reads}
@@ -32,7 +33,7 @@ each_both : {A : Type 0} (P Q R : A → Type 0) → ((x : A) → P x → Q x × 
 each_both P Q R f [] h = (tt, tt)
 each_both P Q R f (x ∷ xs) h = let first = f x h.0 in let more = each_both P Q R f xs h.1 in ((first.0, more.0), (first.1, more.1))
 
-each_of : {A : Type 0} (P Q R : A → Type 0) → ((x : A) → P x → Q x → R x) → (xs : List A) → AllByRecursion P xs → AllByRecursion Q xs → AllByRecursion R xs
+pub each_of : {A : Type 0} (P Q R : A → Type 0) → ((x : A) → P x → Q x → R x) → (xs : List A) → AllByRecursion P xs → AllByRecursion Q xs → AllByRecursion R xs
 each_of P Q R f [] h g = tt
 each_of P Q R f (x ∷ xs) h g = (f x h.0 g.0, each_of P Q R f xs h.1 g.1)
 
@@ -81,7 +82,7 @@ alternatives_of c h g = record {
 }
 
 nothing : (lines : List Bytes) (tail : Bytes) → (is_empty lines && is_empty tail) ≡ true → (lines ≡ []) × (tail ≡ [])
-nothing lines tail h = let both = and_is (is_empty lines) (is_empty tail) h in (empty_is lines both.0, empty_is tail both.1)
+nothing lines tail h = let both = and_parts (is_empty lines) (is_empty tail) h in (empty_is lines both.0, empty_is tail both.1)
 
 whole_by : (over : Bool) (c d : Certificate) (n : ℕ) → cond over (Ok c) (Err (fault.Trailing n)) ≡ Ok d → (over ≡ true) × (c ≡ d)
 whole_by true c d n e = (refl, ok_same c d e)
