@@ -1,6 +1,5 @@
 -- Two lists of which the items belong together, and items of lists by their place.
-use Rattle.std.proofs.Common.{◌≡◌, ℕ, zero, suc, ◌+◌, ◌≤◌, List, [], ◌∷◌, ◌++◌, length, take, refl, sym, ap, subst, ◌∙◌, arith, slice_get, Some, inl, inr}
-use Rattle.std.specs.Prelude.{◌⊎◌}
+use Rattle.std.proofs.Common.{◌≡◌, ℕ, zero, suc, ◌+◌, ◌≤◌, List, [], ◌∷◌, ◌++◌, length, take, refl, sym, ap, subst, ◌∙◌, slice_get, Some, inl, inr}
 use Rattle.std.specs.List.{AllByRecursion, zip}
 use Rattle.std.proofs.lemmas.List.{take_more, take_all}
 use Rattle.std.proofs.lemmas.Option.{slice_get_within, get_or_from_slice_get}
@@ -8,11 +7,6 @@ use Rattle.pc_graph.specs.Lists.{AnyOf, In}
 use Rattle.pc_certify.specs.Lists.{Pairwise}
 
 -- what holds of each item, or of some
-
-pub each_got : {A : Type 0} (P : A → Type 0) (xs : List A) (i : ℕ) (x : A) → AllByRecursion P xs → slice_get xs i ≡ Some x → P x
-each_got P [] i x h got = absurd (cc)
-each_got P (y ∷ xs) zero x h got = let same : y ≡ x = cc in subst P same h.0
-each_got P (y ∷ xs) (suc i) x h got = each_got P xs i x h.1 got
 
 pub any_got : {A : Type 0} (P : A → Type 0) (xs : List A) (i : ℕ) (x : A) → P x → slice_get xs i ≡ Some x → AnyOf P xs
 any_got P [] i x h got = absurd (cc)

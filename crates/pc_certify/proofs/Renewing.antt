@@ -1,5 +1,5 @@
 -- An alternative with other rows at the entry, and other proofs of the edge from it.
-use Rattle.std.proofs.Common.{◌≡◌, ◌≢◌, ℕ, zero, suc, ◌+◌, ◌<◌, ◌≤◌, pos, List, [], ◌∷◌, ◌++◌, length, take, drop, get_or, set, refl, sym, ap, subst, ◌∙◌, arith, inl, inr, true, false, Option, Some, None, Result, Ok, Err, slice_get, append-nil}
+use Rattle.std.proofs.Common.{◌≡◌, ◌≢◌, ℕ, ◌+◌, ◌<◌, ◌≤◌, List, [], ◌∷◌, ◌++◌, length, take, drop, get_or, set, sym, ap, subst, ◌∙◌, arith, inl, inr, true, false, Option, Some, None, Result, Ok, Err, slice_get, append-nil}
 use Rattle.std.specs.Prelude.{◌⊎◌, IfSome}
 use Rattle.std.specs.List.{AllByRecursion}
 use Rattle.std.proofs.lemmas.List.{drop_more, take_more, take_all, take_more_set, drop-set-lt, get_or-set_same, get_or-set_other, length-set}
@@ -19,14 +19,16 @@ use Rattle.pc_graph.specs.Shape.{IsGraph, IsHead, LeadsUp}
 use Rattle.pc_graph.proofs.Entries.{to_start}
 use Rattle.pc_lower.specs.Annotation.{rows_at, AreOver}
 use Rattle.pc_cert.specs.declared.certificate.Annotated.{Annotated}
+use Rattle.pc_graph.proofs.Lists.{each_more}
+use Rattle.pc_lower.proofs.Variables.{each_set}
 use Rattle.pc_replay.specs.Accepts.{RowProved}
 use Rattle.pc_replay.specs.Flaws.{asked}
-use Rattle.pc_replay.proofs.Alls.{each_more}
+use Rattle.pc_replay.proofs.Alls.{each_got}
 use Rattle.pc_certify.specs.Causes.{premises, RowFails}
 use Rattle.pc_certify.specs.Claims.{IsProved}
 use Rattle.pc_certify.specs.Lists.{Pairwise}
 use Rattle.pc_certify.specs.Proving.{EdgeDone, RowsAre, RenewedIs}
-use Rattle.pc_certify.proofs.Pairs.{each_got, pairs_join, pairs_long}
+use Rattle.pc_certify.proofs.Pairs.{pairs_join, pairs_long}
 
 -- the answer on the edge from the entry
 pub renewed_is : (params : ℕ) (rows none next : List Linear) (e : Arc) (found : Result (Option (List Proof)) NoMemory) → e ≡ arc 0 1 (Enter params) → none ≡ [] →
@@ -144,11 +146,6 @@ module _ (g : Flow) (kept : IsGraph g) where
         (subst (λ (z : List Arc). Pairwise (EdgeDone new) z (take i proofs)) (take_all i g.edges past) h.done)
 
     -- what was replaced is proved
-    each_set : (P : List Linear → Type 0) (all : List (List Linear)) (i : ℕ) (r : List Linear) → P r → AllByRecursion P all → AllByRecursion P (set all i r)
-    each_set P [] i r p h = tt
-    each_set P (x ∷ all) zero r p h = (p, h.1)
-    each_set P (x ∷ all) (suc i) r p h = (h.0, each_set P all i r p h.1)
-
     pub replaced_proved : (b old : Annotated) → b.rows ≡ new → old.rows ≡ a → IsProved g old → AllByRecursion (IsOver g.params) rows → 0 < length g.points →
         Pairwise (EdgeDone new) g.edges b.proofs → IsProved g b
     replaced_proved b old same was proved over some done =
