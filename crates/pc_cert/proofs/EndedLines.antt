@@ -51,11 +51,10 @@ line_shorter b line rest false some h = let none = ap length h.1 in omega arith
 
 -- ---- the next line of a text
 
-unread_of : ℕ → List Bytes → Bytes → Unread
+abbrev pub unread_of : ℕ → List Bytes → Bytes → Unread
 unread_of n lines tail = record { number = n; lines = lines; tail = tail }
 
 pub line_taken : (l left : Left) (line : Bytes) → IsLine l.rest line true left.rest → left.number ≡ l.number + 1 → take_line (unread l) ≡ Ok (line, unread left)
-unfolding unread_of
 line_taken l left line h e =
     let first = line_first l.rest line left.rest h in
     ap (λ lines. take_of l.number lines (tail_of l.rest)) first.0

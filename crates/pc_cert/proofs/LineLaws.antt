@@ -50,12 +50,12 @@ row_from_is n v (suc k) r (w ∷ ws) =
     number_first (is_numeral w) (in_range (integer_of w)) (are_numerals k ws) (list_all in_range (map integer_of ws)) (integer_of w) n ws (λ x. row_from n (v + 1) k (with_coefficient r v x.0) x.1) _
     (row_from_is n (v + 1) k (with_coefficient r v (integer_of w)) ws)
 
-linear : ℤ → List ℤ → Linear
+abbrev pub linear : ℤ → List ℤ → Linear
 linear c zs = record { constant = c; coefficients = zs }
 
 set_all_is : (c : ℤ) (front : List ℤ) (zs : List ℤ) (m : ℕ) → length zs ≤ m →
     set_all (length front) (linear c (front ++ replicate m (pos 0))) zs ≡ linear c (front ++ (zs ++ replicate (m - length zs) (pos 0)))
-unfolding set_all linear
+unfolding set_all
 set_all_is c front [] m h = let all : m ≡ m - 0 = omega arith in ap (λ n. linear c (front ++ replicate n (pos 0))) all
 set_all_is c front (z ∷ zs) zero h = absurd (omega arith)
 set_all_is c front (z ∷ zs) (suc m) h =
@@ -77,7 +77,6 @@ numerals_long (suc k) (w ∷ ws) h = let more = numerals_long k ws (and_parts (i
 
 row_set : (v : ℕ) (c : ℤ) (ws : Words) → v ≤ VARIABLES → length ws ≡ v →
     set_all 0 (of_constant c) (map integer_of ws) ≡ linear c (map integer_of ws ++ replicate (VARIABLES - v) (pos 0))
-unfolding linear
 row_set v c ws h l =
     let long : length (map integer_of ws) ≡ v = length-map ws integer_of ∙ l in
     set_all_is c [] (map integer_of ws) VARIABLES (omega arith)
@@ -94,7 +93,6 @@ judged_is false rules n x = refl
 
 -- a row that is read is what the line says
 pub row_is : (v n : ℕ) (ws : Words) → v ≤ VARIABLES → row_of v n ws ≡ line_value (Row v) (row_value v) n ws
-unfolding linear
 row_is v n [] h = refl
 row_is v n (w ∷ ws) h =
     number_first (is_numeral w) (in_range (integer_of w)) (are_numerals v ws) (list_all in_range (map integer_of ws)) (integer_of w) n ws (λ x. row_from n 0 v (of_constant x.0) x.1) _
@@ -123,7 +121,7 @@ parts_from_is n least ps (i ∷ m ∷ ws) =
     (parts_from_is n (natural_of i + 1) (ps ++ part i m ∷ []) ws
     ∙ ap (judged (are_pairs ws) (pairs_keep (natural_of i + 1) ws) n) (append_assoc ps (part i m ∷ []) (parts_value ws)))
 
-proof_with : ℤ → List Part → Proof
+abbrev pub proof_with : ℤ → List Part → Proof
 proof_with z ps = record { goal = z; parts = ps }
 
 with_goal : (form rules : Bool) (n : ℕ) (z : ℤ) (ps : List Part) → (judged form rules n ps >>= (λ qs. Ok (proof_with z qs))) ≡ judged form rules n (proof_with z ps)
@@ -133,7 +131,6 @@ with_goal false rules n z ps = refl
 
 -- a proof that is read is what the line says
 pub proof_is : (n : ℕ) (ws : Words) → proof_of n ws ≡ line_value ProofLine proof_value n ws
-unfolding proof_with
 proof_is n [] = refl
 proof_is n (w ∷ ws) =
     number_first (is_numeral w) (in_range (integer_of w)) (are_pairs ws) (pairs_keep 0 ws) (integer_of w) n ws (λ x. parts_from n 0 [] x.1 >>= (λ ps. Ok (proof_with x.0 ps))) (proof_value (w ∷ ws))

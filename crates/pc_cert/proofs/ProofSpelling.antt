@@ -21,11 +21,10 @@ use Rattle.pc_cert.proofs.Numerals.{numeral_of, integer_is_numeral, count_is, na
 use Rattle.pc_cert.proofs.PartSteps.{not_zero}
 use Rattle.pc_cert.proofs.PlainWords.{IsPlain, numeral_plain}
 use Rattle.pc_cert.proofs.Spelled.{IsSpelled}
+use Rattle.pc_cert.proofs.LineLaws.{proof_with}
+use Rattle.pc_cert.proofs.LineSteps.{part}
 
-part : ℕ → ℤ → Part
-part i z = record { index = i; multiplier = z }
-
-part_line : Part → Words
+abbrev pub part_line : Part → Words
 part_line p = numeral (pos p.index) ∷ numeral p.multiplier ∷ []
 
 -- ---- from words to parts
@@ -82,7 +81,6 @@ parts_good least (i ∷ m ∷ ws) h g =
     }
 
 parts_line : (ws : Words) → are_pairs ws ≡ true → flat_map part_line (parts_value ws) ≡ ws
-unfolding part_line
 parts_line [] h = refl
 parts_line (i ∷ []) h = absurd (cc)
 parts_line (i ∷ m ∷ ws) h =
@@ -96,7 +94,6 @@ parts_line (i ∷ m ∷ ws) h =
 -- ---- from parts to words
 
 pairs_of : (ps : List Part) → are_pairs (flat_map part_line ps) ≡ true
-unfolding part_line
 pairs_of [] = refl
 pairs_of (p ∷ ps) = rw (natural_count p.index, integer_is_numeral p.multiplier) (pairs_of ps)
 
@@ -114,7 +111,6 @@ from_above n [] h = tt
 from_above n (p ∷ ps) h = (omega (arith, h.0), from_above n ps h.1)
 
 rules_of : (least : ℕ) (ps : List Part) → AllByRecursion (λ q. least ≤ q.index) ps → IsRising ps → AllByRecursion IsPart ps → pairs_keep least (flat_map part_line ps) ≡ true
-unfolding part_line
 rules_of least [] f r e = refl
 rules_of least (p ∷ ps) f r e =
     let more = rules_of (p.index + 1) ps (from_above p.index ps r.0) r.1 e.1 in
@@ -125,7 +121,6 @@ from_zero [] = tt
 from_zero (p ∷ ps) = (omega arith, from_zero ps)
 
 parts_of : (ps : List Part) → parts_value (flat_map part_line ps) ≡ ps
-unfolding part_line part
 parts_of [] = refl
 parts_of (p ∷ ps) =
     ap (λ i. part i (integer_of (numeral p.multiplier)) ∷ parts_value (flat_map part_line ps)) (natural_integer p.index)
@@ -133,21 +128,15 @@ parts_of (p ∷ ps) =
     ∙ ap (λ qs. p ∷ qs) (parts_of ps)
 
 parts_plain : (ps : List Part) → AllByRecursion IsPlain (flat_map part_line ps)
-unfolding part_line
 parts_plain [] = tt
 parts_plain (p ∷ ps) = (numeral_plain (pos p.index), (numeral_plain p.multiplier, parts_plain ps))
 
 -- ---- proofs
 
 pub proof_plain : (p : Proof) → AllByRecursion IsPlain (proof_line p)
-unfolding part_line
 proof_plain p = (numeral_plain p.goal, parts_plain p.parts)
 
-proof_with : ℤ → List Part → Proof
-proof_with z ps = record { goal = z; parts = ps }
-
 back_good : (ws : Words) → (g : Bytes) → (is_numeral g && are_pairs ws) ≡ true → (in_range (integer_of g) && pairs_keep 0 ws) ≡ true → IsProof (proof_value (g ∷ ws)) × (proof_line (proof_value (g ∷ ws)) ≡ g ∷ ws)
-unfolding part_line
 back_good ws g h k =
     let form = and_parts (is_numeral g) (are_pairs ws) h in
     let rules = and_parts (in_range (integer_of g)) (pairs_keep 0 ws) k in
@@ -156,7 +145,6 @@ back_good ws g h k =
     (record { goal = ltb-true (unsigned_abs (integer_of g)) (2 ^ 127) rules.0; parts = parts_good 0 ws form.1 rules.1 }, cc)
 
 forth_value : (p : Proof) → proof_value (proof_line p) ≡ p
-unfolding part_line proof_with
 forth_value p = ap (λ z. proof_with z (parts_value (flat_map part_line p.parts))) (integer_numeral p.goal) ∙ ap (proof_with p.goal) (parts_of p.parts)
 
 forth_rules : (p : Proof) → IsProof p → (in_range (integer_of (numeral p.goal)) && pairs_keep 0 (flat_map part_line p.parts)) ≡ true
@@ -167,7 +155,6 @@ back [] h k = absurd (cc)
 back (g ∷ ws) h k = back_good ws g h k
 
 pub proof_spelled : IsSpelled ProofLine proof_value proof_line IsProof
-unfolding part_line
 proof_spelled = record {
   back = back;
   plain = λ p h. (proof_plain p, refl);

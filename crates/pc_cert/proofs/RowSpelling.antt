@@ -17,6 +17,7 @@ use Rattle.pc_cert.specs.CertificateTexts.{row_line}
 use Rattle.pc_cert.proofs.Numerals.{empty_is, numeral_of, integer_is_numeral}
 use Rattle.pc_cert.proofs.PlainWords.{numerals_plain}
 use Rattle.pc_cert.proofs.Spelled.{IsSpelled}
+use Rattle.pc_cert.proofs.LineLaws.{linear}
 
 -- ---- numerals and their numbers
 
@@ -80,9 +81,6 @@ take_front (z ∷ zs) ys = ap (λ xs. z ∷ xs) (take_front zs ys)
 
 -- ---- rows
 
-linear : ℤ → List ℤ → Linear
-linear c zs = record { constant = c; coefficients = zs }
-
 -- a row that the code may hold, over the first variables
 abbrev pub IsRowOver : ℕ → Linear → Type 0
 IsRowOver v r = IsRow r × IsOver v r
@@ -117,7 +115,6 @@ module _ (v : ℕ) (most : v ≤ VARIABLES) where
       cc
 
   line_value : (r : Linear) → IsRowOver v r → row_value v (row_line v r) ≡ r
-  unfolding linear
   line_value r h =
       let cs = r.coefficients in
       let wide = h.0.wide in

@@ -22,10 +22,11 @@ use Rattle.pc_cert.proofs.WordLists.{joined}
 use Rattle.pc_cert.proofs.Numerals.{empty_is}
 use Rattle.pc_cert.proofs.RowSpelling.{IsRowOver}
 use Rattle.pc_cert.proofs.HeadSpelling.{AreWithin, graph_line, version_spelled, sizes_spelled}
-use Rattle.pc_cert.proofs.LineReading.{unread_of, ok_same, line_reads}
+use Rattle.pc_cert.proofs.LineReading.{ok_same, line_reads}
 use Rattle.pc_cert.proofs.ListReading.{bind_ok, taken_both, AreFew}
 use Rattle.pc_cert.proofs.AlternativeReading.{IsPoint, IsEdge, IsWhole}
 use Rattle.pc_cert.proofs.CertificateReading.{alternatives_lines, alternatives_read}
+use Rattle.pc_cert.proofs.EndedLines.{unread_of}
 
 -- ---- what is read is within the limits
 
@@ -60,11 +61,10 @@ annotated_of z a h g = record {
 sizes_in : Certificate → Sizes
 sizes_in c = record { points = c.points; edges = c.edges; variables = c.variables }
 
-certificate_with : Sizes → List Annotated → Certificate
+abbrev pub certificate_with : Sizes → List Annotated → Certificate
 certificate_with z all = record { points = z.points; edges = z.edges; variables = z.variables; alternatives = all }
 
 certificate_is : (z : Sizes) (all : List Annotated) → AreWithin z → AreFew (IsWhole z) ALTERNATIVES all → IsCertificate (certificate_with z all) × IsShowable (certificate_with z all)
-unfolding certificate_with
 certificate_is z all h g =
     let both = each_both (IsWhole z) IsAnnotated (IsAnnotation z.points z.edges z.variables) (annotated_is z) all g.each in
     let few = g.few in
@@ -89,13 +89,11 @@ whole_by true c d n e = (refl, ok_same c d e)
 whole_by false c d n e = absurd (cc)
 
 certificate_lines_are : (z : Sizes) (all : List Annotated) → certificate_lines (certificate_with z all) ≡ version_line ∷ graph_line z ∷ alternatives_lines z.variables all
-unfolding certificate_with
 certificate_lines_are z all = refl
 
 -- a certificate that is read is one whose lines these are, with nothing behind them
 pub certificate_sound : (n : ℕ) (ls : List Bytes) (tail : Bytes) (c : Certificate) → certificate_reader (unread_of n ls tail) ≡ Ok c →
     IsCertificate c × IsShowable c × (ls ≡ map joined (certificate_lines c)) × (tail ≡ [])
-unfolding certificate_with
 certificate_sound n ls tail c e =
     let s = unread_of n ls tail in
     let first = bind_ok (Unit {0} × Unread) Certificate (read_line {A = Unit {0}} Version (λ _. tt) s)
