@@ -1,9 +1,10 @@
 -- What follows from a certificate that is right for the graph of a program.
-use Rattle.std.proofs.Common.{◌≡◌, ◌≤◌, ◌<◌, ℕ, zero, suc, ◌+◌, ◌*◌, ◌^◌, sym, ap, subst, ◌∙◌, arith, List, [], ◌∷◌, length, map, get_or, Bool, true, false, All, inl, inr, Option, Some, None, Result, Ok, Err, IfOk, ℤ, pos, refl}
-use Rattle.std.specs.Prelude.{◌⊎◌, ◌&&◌, nat_le, int_le, ◌≤ℤ◌}
+use Rattle.std.proofs.Common.{◌≡◌, ◌≤◌, ℕ, suc, ap, subst, ◌∙◌, arith, List, [], ◌∷◌, length, map, get_or, Bool, true, false, All, inl, inr, Some, None, Result, Ok, Err, IfOk, pos, refl}
+use Rattle.std.specs.Prelude.{◌⊎◌, ◌&&◌, nat_le, int_le}
 use Rattle.std.specs.List.{AllByRecursion}
-use Rattle.std.proofs.lemmas.Bool.Decides.{nat_tests}
 use Rattle.std.proofs.lemmas.Int.{ints}
+use Rattle.std.proofs.lemmas.Bool.{leb-true}
+use Rattle.std.proofs.lemmas.List.Elements.{All-from_recursion}
 use Rattle.pc_text.specs.declared.place.Place.{Place}
 use Rattle.pc_rows.specs.Linear.{Linear, State, value, Meets, MeetsAll, MeetsSome, IsOver}
 use Rattle.pc_rows.specs.declared.row.TheConstants.{VARIABLES}
@@ -14,7 +15,6 @@ use Rattle.pc_syntax.specs.Loops.{first, whiles_of}
 use Rattle.pc_syntax.specs.Sane.{is_sane, sane_stmts, edges_of}
 use Rattle.pc_syntax.proofs.Results.{and_is}
 use Rattle.pc_graph.specs.Lowering.{graph}
-use Rattle.pc_graph.specs.Straight.{LoopFreeGraphs}
 use Rattle.pc_graph.proofs.LoopFree.{loop_free_graphs}
 use Rattle.pc_lower.specs.Annotation.{NoHeads}
 use Rattle.pc_cert.specs.declared.certificate.Annotated.{Annotated}
@@ -22,6 +22,8 @@ use Rattle.pc_cert.specs.Certificate.{Certificate, entry_rows, condition_of, Say
 use Rattle.pc_text.specs.Bytes.{Bytes}
 use Rattle.pc_cert.specs.CertificateTexts.{IsTextOf}
 use Rattle.pc_cert.proofs.ShortTexts.{texts_are_short}
+use Rattle.pc_cert.proofs.WholeReading.{each_of}
+use Rattle.pc_graph.proofs.Lists.{each_more}
 use Rattle.pc_replay.specs.Accepts.{Accepts, AlternativeProved}
 use Rattle.pc_replay.specs.Rule.{rows_at}
 use Rattle.pc_replay.specs.Shape.{IsShaped}
@@ -33,37 +35,21 @@ use Rattle.pc_app.specs.declared.status.TheConstants.{REFUSED}
 use Rattle.pc_app.specs.Answers.{AnalysisAnswers}
 use Rattle.pc_app.specs.Answers.AnalysisAnswers.{IsNotBuilt}
 use Rattle.pc_app.specs.Texts.{refused, not_built}
-use Rattle.pc_app.specs.declared.limits.TheConstants.{ALTERNATIVES, CERTIFICATE_BYTES}
-use Rattle.pc_app.specs.Inferred.{IsEntry, IsCondition, Suffices, HasViolation, IsNeeded, IsTameAndStraight, Inferred}
+use Rattle.pc_app.specs.declared.limits.TheConstants.{CERTIFICATE_BYTES}
+use Rattle.pc_app.specs.Inferred.{IsCondition, HasViolation, IsNeeded, IsTameAndStraight, Inferred}
 
 -- ---- what a program keeps
-
-at_most_is : (a b : ℕ) → nat_le a b ≡ true → a ≤ b
-at_most_is a b h = grind (arith, nat_tests)
 
 few_params : (p : Program) → is_sane p.names p.body ≡ true → p.names.params ≤ length p.names.names
 few_params p h =
     let n = length p.names.names in
-    at_most_is p.names.params n (and_is (nat_le p.names.params n) (nat_le n VARIABLES && (sane_stmts n p.body && nat_le (edges_of p.body) EDGES)) h).0
+    leb-true p.names.params n (and_is (nat_le p.names.params n) (nat_le n VARIABLES && (sane_stmts n p.body && nat_le (edges_of p.body) EDGES)) h).0
 
 -- ---- facts of each item
-
-each_is : {A : Type 0} (P : A → Type 0) (xs : List A) → AllByRecursion P xs → All P xs
-each_is P [] h k d l = absurd (omega arith)
-each_is P (x ∷ xs) h zero d l = h.0
-each_is P (x ∷ xs) h (suc k) d l = each_is P xs h.1 k d (omega arith)
-
-each_more : {A : Type 0} (P Q : A → Type 0) → ((x : A) → P x → Q x) → (xs : List A) → AllByRecursion P xs → AllByRecursion Q xs
-each_more P Q f [] h = tt
-each_more P Q f (x ∷ xs) h = (f x h.0, each_more P Q f xs h.1)
 
 each_mapped : {A B : Type 0} (P : B → Type 0) (f : A → B) (xs : List A) → AllByRecursion (λ x. P (f x)) xs → AllByRecursion P (map f xs)
 each_mapped P f [] h = tt
 each_mapped P f (x ∷ xs) h = (h.0, each_mapped P f xs h.1)
-
-each_both : {A : Type 0} (P Q R : A → Type 0) → ((x : A) → P x → Q x → R x) → (xs : List A) → AllByRecursion P xs → AllByRecursion Q xs → AllByRecursion R xs
-each_both P Q R f [] h g = tt
-each_both P Q R f (x ∷ xs) h g = (f x h.0 g.0, each_both P Q R f xs h.1 g.1)
 
 -- ---- the rows of the entry
 
@@ -80,11 +66,11 @@ wider m n le r over v l = over v (omega arith)
 -- each alternative has rows for the entry, over the names
 pub says : (p : Program) (c : Certificate) → Accepts (graph p) c → AllByRecursion (SaysOf (length p.names.names)) c.alternatives
 says p c accepts =
-    each_both (IsShaped c.points c.edges c.variables) (AlternativeProved (graph p)) (SaysOf (length p.names.names))
+    each_of (IsShaped c.points c.edges c.variables) (AlternativeProved (graph p)) (SaysOf (length p.names.names))
     (λ a shaped proved.
     let long = shaped.rows ∙ accepts.shape.points in
     let over = each_more (IsOver p.names.params) (IsOver (length p.names.names)) (wider p.names.params (length p.names.names) (few_params p p.sane)) (rows_at a 0) proved.entry in
-    (omega arith, each_is (IsOver (length p.names.names)) (entry_rows a.rows) (subst (λ (rows : List Linear). AllByRecursion (IsOver (length p.names.names)) rows) (entry_is a) over)))
+    (omega arith, All-from_recursion (IsOver (length p.names.names)) (entry_rows a.rows) (subst (λ (rows : List Linear). AllByRecursion (IsOver (length p.names.names)) rows) (entry_is a) over)))
     c.alternatives accepts.shape.each accepts.each
 
 -- ---- the condition
@@ -98,9 +84,9 @@ small p c one rows =
     let long = mapped_length (λ (a : Annotated). entry_rows a.rows) c.alternatives in
     record {
       alternatives = omega arith;
-      rows = each_is (λ rows. length rows ≤ ROWS) (condition_of c) (each_more (AreEntryRows (graph p)) (λ rows. length rows ≤ ROWS) (λ rows h. h.most) (condition_of c) rows);
-      parameters = each_is (All (IsOver p.names.params)) (condition_of c)
-          (each_more (AreEntryRows (graph p)) (All (IsOver p.names.params)) (λ rows h. each_is (IsOver p.names.params) rows h.over) (condition_of c) rows);
+      rows = All-from_recursion (λ rows. length rows ≤ ROWS) (condition_of c) (each_more (AreEntryRows (graph p)) (λ rows. length rows ≤ ROWS) (λ rows h. h.most) (condition_of c) rows);
+      parameters = All-from_recursion (All (IsOver p.names.params)) (condition_of c)
+          (each_more (AreEntryRows (graph p)) (All (IsOver p.names.params)) (λ rows h. All-from_recursion (IsOver p.names.params) rows h.over) (condition_of c) rows);
     }
 
 -- ---- whether a state meets a condition

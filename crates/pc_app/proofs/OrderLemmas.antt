@@ -1,6 +1,7 @@
 -- An order is answered as the files are that it names.
-use Rattle.std.proofs.Common.{◌≡◌, ℕ, ◌≤◌, ◌<◌, arith, inl, inr, List, [], ◌∷◌, Result, Ok, Err, ◌⊎◌}
-use Rattle.pc_ports.specs.Outside.{Holding, Nothing, Rose}
+use Rattle.std.proofs.Common.{ℕ, ◌≤◌, inl, inr, List, [], ◌∷◌, Result, Ok, Err, ◌⊎◌}
+use Rattle.pc_ports.specs.Outside.{Holding, Rose}
+use Rattle.pc_ports.proofs.Appending.{rose_from}
 use Rattle.pc_text.specs.Bytes.{Bytes}
 use Rattle.pc_syntax.specs.declared.program.Program.{Program}
 use Rattle.pc_cert.specs.Certificate.{Certificate}
@@ -91,10 +92,6 @@ source_stops A held before now source others e h =
 
 -- an order of a source that is read, and a further file
 
-rose_later : (before middle now : ℕ) → before ≤ middle → Rose middle now → Rose before now
-rose_later before middle now le (inl h) = inl (omega arith)
-rose_later before middle now le (inr h) = inr h
-
 pub source_goes_on : (A : Program → ℕ → Bytes → Type 0) (held : Bytes → Holding) (before middle now : ℕ) (source other : Bytes) (p : Program) → before ≤ middle → IsSource (held source) p →
     (r : Result Answer Stop) → WithFile (A p) (held other) middle now r → Answered (OnSource A (held source)) (Rose before now ⊎ LacksSome held (source ∷ other ∷ [])) r
 source_goes_on A held before middle now source other p le is r h =
@@ -102,7 +99,7 @@ source_goes_on A held before middle now source other p le is r h =
     (λ status text a. on_source A (held source) p status text is a) lost r h
   where
     lost : IsLost (held other) middle now → Rose before now ⊎ LacksSome held (source ∷ other ∷ [])
-    lost (inl rose) = inl (rose_later before middle now le rose)
+    lost (inl rose) = inl (rose_from before middle now le rose)
     lost (inr nowhere) = inr (inr (inl nowhere))
 
 -- words that are an order are answered as the order

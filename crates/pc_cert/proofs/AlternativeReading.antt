@@ -22,8 +22,9 @@ use Rattle.pc_cert.proofs.Spelled.{IsSpelled}
 use Rattle.pc_cert.proofs.RowSpelling.{IsRowOver, row_spelled}
 use Rattle.pc_cert.proofs.ProofSpelling.{proof_spelled}
 use Rattle.pc_cert.proofs.HeadSpelling.{point_spelled, edge_spelled}
-use Rattle.pc_cert.proofs.LineReading.{unread_of, AreTaken, ReadsLines, ok_same, give, line_reads}
+use Rattle.pc_cert.proofs.LineReading.{AreTaken, ReadsLines, ok_same, give, line_reads}
 use Rattle.pc_cert.proofs.ListReading.{bind_ok, taken_both, lines_both, AreGood, AreFew, repeated_reads, headed_reads}
+use Rattle.pc_cert.proofs.EndedLines.{unread_of}
 
 -- ---- points and edges
 
@@ -45,7 +46,7 @@ edge_reads e =
 
 -- ---- what stands behind the beginning of an alternative
 
-annotated_with : List (List Linear) → List (List Proof) → Annotated
+abbrev pub annotated_with : List (List Linear) → List (List Proof) → Annotated
 annotated_with rows proofs = record { rows = rows; proofs = proofs }
 
 pub record IsWhole (z : Sizes) (a : Annotated) : Type 0 where
@@ -63,7 +64,6 @@ module _ (z : Sizes) (most : z.variables ≤ VARIABLES) where
   proofs_are = repeated_reads edge_reader edge_lines IsEdge edge_reads 0 z.edges
 
   annotated_sound : (s left : Unread) (a : Annotated) → annotated_reader z s ≡ Ok (a, left) → IsWhole z a × AreTaken (annotated_lines z.variables a) s left
-  unfolding annotated_with
   annotated_sound s left a e =
       let first = bind_ok (List (List Linear) × Unread) (Annotated × Unread) (repeated (point_reader z.variables) 0 z.points s)
       (λ rows. repeated edge_reader 0 z.edges rows.1 >>= (λ proofs. give proofs.1 (annotated_with rows.0 proofs.0))) (a, left) e in
@@ -83,7 +83,6 @@ module _ (z : Sizes) (most : z.variables ≤ VARIABLES) where
 
   annotated_complete : (a : Annotated) → IsWhole z a → (n : ℕ) (rest : List Bytes) (tail : Bytes) →
       (m : ℕ) × (annotated_reader z (unread_of n (map joined (annotated_lines z.variables a) ++ rest) tail) ≡ Ok (a, unread_of m rest tail))
-  unfolding annotated_with
   annotated_complete a h n rest tail =
       let points = numbered (point_lines z.variables) 0 a.rows in
       let edges = numbered edge_lines 0 a.proofs in

@@ -13,16 +13,14 @@ use Rattle.pc_cert.specs.Certificate.{Certificate}
 use Rattle.pc_cert.specs.Words.{is_empty, is_word}
 use Rattle.pc_cert.specs.Faults.{Wanted, Version, Graph, Next, Point, Edge, sizes_of, in_order, alternative}
 use Rattle.pc_cert.specs.Readers.{◌>>=◌, Unread, read_line, repeated, point_reader, edge_reader, annotated_reader, goes_on, begins, alternatives_reader, is_over, whole, certificate_reader}
-use Rattle.pc_cert.proofs.LineReading.{unread_of, give}
-use Rattle.pc_cert.proofs.AlternativeReading.{begins_reads}
+use Rattle.pc_cert.proofs.LineReading.{give}
+use Rattle.pc_cert.proofs.AlternativeReading.{begins_reads, annotated_with}
 use Rattle.pc_cert.proofs.CertificateReading.{read_one, none_is, one_is}
 use Rattle.pc_cert.proofs.FaultReading.{fault_in, or_left, or_left_then, or_left_same, FindsFault, line_brings, repeated_finds, point_finds, edge_finds}
-
-annotated_with : List (List Linear) → List (List Proof) → Annotated
-annotated_with rows proofs = record { rows = rows; proofs = proofs }
+use Rattle.pc_cert.proofs.WholeReading.{certificate_with}
+use Rattle.pc_cert.proofs.EndedLines.{unread_of}
 
 annotated_finds : (z : Sizes) → FindsFault (annotated_reader z) (in_order (Point z.variables) 0 z.points ++ in_order Edge 0 z.edges)
-unfolding annotated_with
 annotated_finds z = λ more s.
     let points = in_order (Point z.variables) 0 z.points in
     let edges = in_order Edge 0 z.edges in
@@ -99,11 +97,7 @@ answer_then : {A : Type 0} (r : Result (A × Unread) CertFault) (g : A × Unread
 answer_then (Ok x) g = refl
 answer_then (Err e) g = refl
 
-certificate_with : Sizes → List Annotated → Certificate
-certificate_with z all = record { points = z.points; edges = z.edges; variables = z.variables; alternatives = all }
-
 whole_finds : (z : Sizes) (all : List Annotated) (left : Unread) → fault_in [] left ≡ fault_in_answer (whole z all left)
-unfolding certificate_with
 whole_finds z all left = nothing_wanted left.number left.lines left.tail ∙ over_by (is_over left) (certificate_with z all) left.number
 
 sizes_find : (z : Sizes) (left : Unread) → fault_in (Next z 0 ∷ []) left ≡ fault_in_answer (alternatives_reader z 0 ALTERNATIVES left >>= (λ all. whole z all.0 all.1))

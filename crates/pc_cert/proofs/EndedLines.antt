@@ -1,7 +1,8 @@
 -- The lines of a text that a line feed ends, one after another.
-use Rattle.std.proofs.Common.{◌≡◌, ◌∙◌, refl, ap, sym, subst, ℕ, zero, suc, ◌+◌, ◌<◌, Bool, true, false, not, List, [], ◌∷◌, ◌++◌, length, length-append, Ok, Err, arith}
+use Rattle.std.proofs.Common.{◌≡◌, ◌∙◌, refl, ap, sym, subst, ℕ, zero, suc, ◌+◌, ◌<◌, Bool, true, false, List, [], ◌∷◌, ◌++◌, length, length-append, Ok, Err, arith}
 use Rattle.std.specs.List.{All, slice_split, count_by}
 use Rattle.std.proofs.lemmas.List.Splits.{slice_split_at, slice_split_none, length-slice_split}
+use Rattle.std.proofs.lemmas.Bool.{not-true}
 use Rattle.pc_text.specs.Bytes.{Bytes}
 use Rattle.pc_text.specs.Places.{is_line_feed}
 use Rattle.pc_text.specs.Lexemes.{in_line, EachPasses}
@@ -11,10 +12,6 @@ use Rattle.pc_cert.specs.Faults.{all_but_last, last_of, ended_lines, tail_of}
 use Rattle.pc_cert.specs.Readers.{Unread, unread, is_over, take_of, take_line}
 use Rattle.pc_cert.specs.Words.{is_empty}
 
-negated : (b : Bool) → not b ≡ true → b ≡ false
-negated true e = cc
-negated false e = refl
-
 feed_by : (b : ℕ) (line : Bytes) → is_line_feed b ≡ false → All (λ b. is_line_feed b ≡ false) line → All (λ b. is_line_feed b ≡ false) (b ∷ line)
 feed_by b line h more zero d l = h
 feed_by b line h more (suc k) d l = more k d (omega arith)
@@ -22,7 +19,7 @@ feed_by b line h more (suc k) d l = more k d (omega arith)
 -- no byte of a line is a line feed
 no_feed : (line : Bytes) → EachPasses in_line line → All (λ b. is_line_feed b ≡ false) line
 no_feed [] h = λ k d l. absurd (omega arith)
-no_feed (b ∷ line) h = feed_by b line (negated (is_line_feed b) (h.0)) (no_feed line (h.1))
+no_feed (b ∷ line) h = feed_by b line (not-true (is_line_feed b) (h.0)) (no_feed line (h.1))
 
 more_by : (line : Bytes) (ls : List Bytes) (k : ℕ) → length ls ≡ k + 1 → (all_but_last (line ∷ ls) ≡ line ∷ all_but_last ls) × (last_of (line ∷ ls) ≡ last_of ls)
 more_by line [] k h = absurd (omega arith)
@@ -54,11 +51,10 @@ line_shorter b line rest false some h = let none = ap length h.1 in omega arith
 
 -- ---- the next line of a text
 
-unread_of : ℕ → List Bytes → Bytes → Unread
+abbrev pub unread_of : ℕ → List Bytes → Bytes → Unread
 unread_of n lines tail = record { number = n; lines = lines; tail = tail }
 
 pub line_taken : (l left : Left) (line : Bytes) → IsLine l.rest line true left.rest → left.number ≡ l.number + 1 → take_line (unread l) ≡ Ok (line, unread left)
-unfolding unread_of
 line_taken l left line h e =
     let first = line_first l.rest line left.rest h in
     ap (λ lines. take_of l.number lines (tail_of l.rest)) first.0

@@ -2,7 +2,7 @@
 use Rattle.std.proofs.Common.{◌≡◌, ◌∙◌, refl, ap, sym, subst, ℕ, zero, suc, ◌≤◌, leb, eqb, true, List, [], ◌∷◌, length, map, arith, pos}
 use Rattle.std.specs.Prelude.{◌&&◌, bytes_eq, codes}
 use Rattle.std.specs.List.{AllByRecursion}
-use Rattle.std.proofs.lemmas.Bool.{leb-true, le-leb, eqb-true, eq-eqb}
+use Rattle.std.proofs.lemmas.Bool.{leb-true, le-leb, eqb-true, eq-eqb, and_parts}
 use Rattle.std.proofs.lemmas.Slice.Eq.{bytes_eq-Decides}
 use Rattle.pc_rows.specs.declared.row.TheConstants.{VARIABLES}
 use Rattle.pc_rows.specs.declared.rows.TheConstants.{ROWS}
@@ -15,7 +15,7 @@ use Rattle.pc_cert.specs.declared.certificate.TheConstants.{POINTS, EDGES}
 use Rattle.pc_cert.specs.Words.{Words, is_count, are_counts, is_named, is_word, number_at}
 use Rattle.pc_cert.specs.Faults.{Version, Graph, Point, Edge, sizes_of, are_within}
 use Rattle.pc_cert.specs.CertificateTexts.{counts, version_line}
-use Rattle.pc_cert.proofs.Numerals.{and_is, empty_is, count_is, natural_count, natural_integer}
+use Rattle.pc_cert.proofs.Numerals.{empty_is, count_is, natural_count, natural_integer}
 use Rattle.pc_cert.proofs.WordLists.{named_is, word_is}
 use Rattle.pc_cert.proofs.PlainWords.{IsPlain, ArePlain, numeral_plain}
 use Rattle.pc_cert.proofs.Spelled.{IsSpelled}
@@ -30,7 +30,7 @@ counts_back : (n : ℕ) (ws : Words) → are_counts n ws ≡ true → (map (λ k
 counts_back zero ws h = let none = empty_is ws h in (rw none refl, ap length none)
 counts_back (suc n) [] h = absurd (cc)
 counts_back (suc n) (w ∷ ws) h =
-    let both = and_is (is_count w) (are_counts n ws) h in
+    let both = and_parts (is_count w) (are_counts n ws) h in
     let first = count_is w both.0 in
     let more = counts_back n ws both.1 in
     let rest = more.0 in
@@ -81,7 +81,7 @@ module _ (name : Bytes) (plain : IsPlain name) (running most : ℕ) where
   head_back : (ws : Words) → is_named name (are_counts 2) ws ≡ true → (eqb (number_at 1 ws) running && leb (number_at 2 ws) most) ≡ true →
       (number_at 2 ws ≤ most) × (counts name (running ∷ number_at 2 ws ∷ []) ≡ ws)
   head_back ws h k =
-      let rules = and_is (eqb (number_at 1 ws) running) (leb (number_at 2 ws) most) k in
+      let rules = and_parts (eqb (number_at 1 ws) running) (leb (number_at 2 ws) most) k in
       let same : running ≡ number_at 1 ws = sym (eqb-true (number_at 1 ws) running rules.0) in
       (leb-true (number_at 2 ws) most rules.1, ap (λ n. counts name (n ∷ number_at 2 ws ∷ [])) same ∙ two_back name ws h)
 
@@ -158,8 +158,8 @@ graph_line z = counts (codes "graph") (z.points ∷ z.edges ∷ z.variables ∷ 
 
 within_is : (z : Sizes) → are_within z ≡ true → AreWithin z
 within_is z h =
-    let two = and_is (leb z.points POINTS && leb z.edges EDGES) (leb z.variables VARIABLES) h in
-    let one = and_is (leb z.points POINTS) (leb z.edges EDGES) two.0 in
+    let two = and_parts (leb z.points POINTS && leb z.edges EDGES) (leb z.variables VARIABLES) h in
+    let one = and_parts (leb z.points POINTS) (leb z.edges EDGES) two.0 in
     record { points = leb-true z.points POINTS one.0; edges = leb-true z.edges EDGES one.1; variables = leb-true z.variables VARIABLES two.1 }
 
 within_of : (z : Sizes) → AreWithin z → are_within z ≡ true

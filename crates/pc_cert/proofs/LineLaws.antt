@@ -4,6 +4,7 @@ use Rattle.std.proofs.Math.Seq.{set-append_seam}
 use Rattle.std.proofs.lemmas.List.{append-nil, length-map}
 use Rattle.std.specs.Prelude.{◌&&◌}
 use Rattle.std.specs.List.{list_all}
+use Rattle.std.proofs.lemmas.Bool.{and_parts}
 use Rattle.pc_rows.specs.declared.proof.Part.{Part}
 use Rattle.pc_rows.specs.declared.row.TheConstants.{VARIABLES}
 use Rattle.pc_rows.specs.Linear.{Linear, in_range, of_constant, with_coefficient}
@@ -16,7 +17,6 @@ use Rattle.pc_cert.specs.declared.fault.CertFault.TheVariants as fault
 use Rattle.pc_cert.specs.declared.words.Word.TheVariants as word
 use Rattle.pc_cert.specs.Words.{Words, is_count, is_numeral, are_numerals, are_pairs}
 use Rattle.pc_cert.specs.Faults.{Row, Proof as ProofLine, pairs_keep, part_keeps}
-use Rattle.pc_cert.proofs.Numerals.{and_is}
 use Rattle.pc_cert.specs.Readers.{◌>>=◌, unless_fault, line_value, row_value, parts_value, proof_value}
 use Rattle.pc_cert.specs.LineReaders.{broken, number_by, row_from, row_of, parts_from, proof_of}
 
@@ -50,12 +50,12 @@ row_from_is n v (suc k) r (w ∷ ws) =
     number_first (is_numeral w) (in_range (integer_of w)) (are_numerals k ws) (list_all in_range (map integer_of ws)) (integer_of w) n ws (λ x. row_from n (v + 1) k (with_coefficient r v x.0) x.1) _
     (row_from_is n (v + 1) k (with_coefficient r v (integer_of w)) ws)
 
-linear : ℤ → List ℤ → Linear
+abbrev pub linear : ℤ → List ℤ → Linear
 linear c zs = record { constant = c; coefficients = zs }
 
 set_all_is : (c : ℤ) (front : List ℤ) (zs : List ℤ) (m : ℕ) → length zs ≤ m →
     set_all (length front) (linear c (front ++ replicate m (pos 0))) zs ≡ linear c (front ++ (zs ++ replicate (m - length zs) (pos 0)))
-unfolding set_all linear
+unfolding set_all
 set_all_is c front [] m h = let all : m ≡ m - 0 = omega arith in ap (λ n. linear c (front ++ replicate n (pos 0))) all
 set_all_is c front (z ∷ zs) zero h = absurd (omega arith)
 set_all_is c front (z ∷ zs) (suc m) h =
@@ -73,11 +73,10 @@ numerals_long : (k : ℕ) (ws : Words) → are_numerals k ws ≡ true → length
 numerals_long zero [] h = refl
 numerals_long zero (w ∷ ws) h = absurd (cc)
 numerals_long (suc k) [] h = absurd (cc)
-numerals_long (suc k) (w ∷ ws) h = let more = numerals_long k ws (and_is (is_numeral w) (are_numerals k ws) h).1 in omega arith
+numerals_long (suc k) (w ∷ ws) h = let more = numerals_long k ws (and_parts (is_numeral w) (are_numerals k ws) h).1 in omega arith
 
 row_set : (v : ℕ) (c : ℤ) (ws : Words) → v ≤ VARIABLES → length ws ≡ v →
     set_all 0 (of_constant c) (map integer_of ws) ≡ linear c (map integer_of ws ++ replicate (VARIABLES - v) (pos 0))
-unfolding linear
 row_set v c ws h l =
     let long : length (map integer_of ws) ≡ v = length-map ws integer_of ∙ l in
     set_all_is c [] (map integer_of ws) VARIABLES (omega arith)
@@ -94,13 +93,12 @@ judged_is false rules n x = refl
 
 -- a row that is read is what the line says
 pub row_is : (v n : ℕ) (ws : Words) → v ≤ VARIABLES → row_of v n ws ≡ line_value (Row v) (row_value v) n ws
-unfolding linear
 row_is v n [] h = refl
 row_is v n (w ∷ ws) h =
     number_first (is_numeral w) (in_range (integer_of w)) (are_numerals v ws) (list_all in_range (map integer_of ws)) (integer_of w) n ws (λ x. row_from n 0 v (of_constant x.0) x.1) _
     (row_from_is n 0 v (of_constant (integer_of w)) ws)
     ∙ judged_same (is_numeral w && are_numerals v ws) (in_range (integer_of w) && list_all in_range (map integer_of ws)) n _ (row_value v (w ∷ ws))
-    (λ e. row_set v (integer_of w) ws h (numerals_long v ws (and_is (is_numeral w) (are_numerals v ws) e).1))
+    (λ e. row_set v (integer_of w) ws h (numerals_long v ws (and_parts (is_numeral w) (are_numerals v ws) e).1))
     ∙ judged_is (is_numeral w && are_numerals v ws) (in_range (integer_of w) && list_all in_range (map integer_of ws)) n (row_value v (w ∷ ws))
 
 -- ---- proofs
@@ -123,7 +121,7 @@ parts_from_is n least ps (i ∷ m ∷ ws) =
     (parts_from_is n (natural_of i + 1) (ps ++ part i m ∷ []) ws
     ∙ ap (judged (are_pairs ws) (pairs_keep (natural_of i + 1) ws) n) (append_assoc ps (part i m ∷ []) (parts_value ws)))
 
-proof_with : ℤ → List Part → Proof
+abbrev pub proof_with : ℤ → List Part → Proof
 proof_with z ps = record { goal = z; parts = ps }
 
 with_goal : (form rules : Bool) (n : ℕ) (z : ℤ) (ps : List Part) → (judged form rules n ps >>= (λ qs. Ok (proof_with z qs))) ≡ judged form rules n (proof_with z ps)
@@ -133,7 +131,6 @@ with_goal false rules n z ps = refl
 
 -- a proof that is read is what the line says
 pub proof_is : (n : ℕ) (ws : Words) → proof_of n ws ≡ line_value ProofLine proof_value n ws
-unfolding proof_with
 proof_is n [] = refl
 proof_is n (w ∷ ws) =
     number_first (is_numeral w) (in_range (integer_of w)) (are_pairs ws) (pairs_keep 0 ws) (integer_of w) n ws (λ x. parts_from n 0 [] x.1 >>= (λ ps. Ok (proof_with x.0 ps))) (proof_value (w ∷ ws))

@@ -9,9 +9,7 @@ use Rattle.pc_cert.specs.Readers.{◌>>=◌, Unread, Reader, unless_fault, line_
 use Rattle.pc_cert.proofs.WordLists.{joined, line_of_words}
 use Rattle.pc_cert.proofs.PlainWords.{words_of_line}
 use Rattle.pc_cert.proofs.Spelled.{IsSpelled}
-
-abbrev pub unread_of : ℕ → List Bytes → Bytes → Unread
-unread_of n lines tail = record { number = n; lines = lines; tail = tail }
+use Rattle.pc_cert.proofs.EndedLines.{unread_of}
 
 -- these lines stood before what is left
 pub record AreTaken (ls : List Words) (s left : Unread) : Type 0 where

@@ -2,6 +2,7 @@
 use Rattle.std.proofs.Common.{◌≡◌, ◌∙◌, refl, ap, sym, ℕ, suc, ◌+◌, ◌-◌, ◌^◌, ◌<◌, min, Bool, true, false, not, cond, leb, ltb, ◌∷◌, Some, None, Ok, Err, ℤ, arith}
 use Rattle.std.specs.Prelude.{◌&&◌}
 use Rattle.std.proofs.lemmas.Bool.Decides.{nat_tests}
+use Rattle.std.proofs.Math.Bool.{and-true, and-false}
 use Rattle.pc_rows.specs.declared.proof.Part.{Part}
 use Rattle.pc_rows.specs.declared.system.TheConstants.{PREMISES}
 use Rattle.pc_rows.specs.Linear.{Linear, in_range, is_zero, with_coefficient}
@@ -16,7 +17,7 @@ use Rattle.pc_cert.specs.Readers.{◌>>=◌}
 use Rattle.pc_cert.specs.Faults.{part_keeps}
 use Rattle.pc_cert.specs.LineReaders.{next_number, row_from, broken, part_of, next_part}
 
-one_less : (n i : ℕ) → i < n → n - i ≡ suc (n - (i + 1))
+pub one_less : (n i : ℕ) → i < n → n - i ≡ suc (n - (i + 1))
 one_less n i h = omega arith
 
 -- ---- numerals
@@ -48,14 +49,6 @@ below_same least n h = grind (arith, nat_tests)
 abbrev pub part : ℕ → ℤ → Part
 part i z = record { index = i; multiplier = z }
 
-and_false : (b : Bool) → (b && false) ≡ false
-and_false true = refl
-and_false false = refl
-
-and_true : (b : Bool) → (b && true) ≡ b
-and_true true = refl
-and_true false = refl
-
 -- the index was capped, where it has no part
 part_by : (below u : Bool) (capped i : ℕ) (z : ℤ) → (below ≡ true → capped ≡ i) → cond (below && u) (Some (part capped z)) None ≡ cond (below && u) (Some (part i z)) None
 part_by true u capped i z same = ap (λ n. cond u (Some (part n z)) None) (same refl)
@@ -68,8 +61,8 @@ number_part least n z =
 
 word_part : (least n : ℕ) (z : ℤ) (t : Bool) → part_of least (min n (2 ^ 32 - 1)) (cond t (word.Number z) word.Past)
     ≡ cond (leb least n && ltb n PREMISES && t && not (is_zero z)) (Some (part n z)) None
-word_part least n z true = number_part least n z ∙ ap (λ b. cond (b && not (is_zero z)) (Some (part n z)) None) (sym (and_true (leb least n && ltb n PREMISES)))
-word_part least n z false = ap (λ b. cond (b && not (is_zero z)) (Some (part n z)) None) (sym (and_false (leb least n && ltb n PREMISES)))
+word_part least n z true = number_part least n z ∙ ap (λ b. cond (b && not (is_zero z)) (Some (part n z)) None) (sym (and-true (leb least n && ltb n PREMISES)))
+word_part least n z false = ap (λ b. cond (b && not (is_zero z)) (Some (part n z)) None) (sym (and-false (leb least n && ltb n PREMISES)))
 
 -- the part of an index that may be capped and of a numeral is that of their words
 pub part_is : (least : ℕ) (i m : Bytes) → is_numeral m ≡ true → part_of least (min (natural_of i) (2 ^ 32 - 1)) (word_of m) ≡ cond (part_keeps least i m) (Some (part (natural_of i) (integer_of m))) None

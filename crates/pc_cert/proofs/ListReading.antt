@@ -10,7 +10,8 @@ use Rattle.pc_cert.specs.Readers.{◌>>=◌, Unread, Reader, repeated, read_line
 use Rattle.pc_cert.specs.CertificateTexts.{numbered}
 use Rattle.pc_cert.proofs.WordLists.{joined}
 use Rattle.pc_cert.proofs.Spelled.{IsSpelled}
-use Rattle.pc_cert.proofs.LineReading.{unread_of, AreTaken, ReadsLines, ok_same, give, line_reads}
+use Rattle.pc_cert.proofs.LineReading.{AreTaken, ReadsLines, ok_same, give, line_reads}
+use Rattle.pc_cert.proofs.EndedLines.{unread_of}
 
 -- what was handed on
 pub bind_ok : (A B : Type 0) (r : Result A CertFault) (f : A → Result B CertFault) (y : B) → (r >>= f) ≡ Ok y → (x : A) × (r ≡ Ok x) × (f x ≡ Ok y)

@@ -15,11 +15,11 @@ use Rattle.pc_cert.specs.CertificateTexts.{certificate_lines, certificate_text, 
 use Rattle.pc_cert.specs.Answers.{Gives, Means, TextDeterminesCertificate, EachTextHasOneAnswer}
 use Rattle.pc_cert.proofs.WordLists.{joined}
 use Rattle.pc_cert.proofs.PlainWords.{lines_of_text}
-use Rattle.pc_cert.proofs.LineReading.{unread_of}
 use Rattle.pc_cert.proofs.WholeReading.{certificate_sound, certificate_complete}
 use Rattle.pc_cert.proofs.PlainLines.{certificate_plain}
 use Rattle.pc_cert.proofs.CertificateFaults.{fault_in_answer, certificate_finds}
 use Rattle.pc_cert.proofs.Told.{unless_then}
+use Rattle.pc_cert.proofs.EndedLines.{unread_of}
 
 -- ---- a text is its lines
 

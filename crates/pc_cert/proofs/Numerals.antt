@@ -2,7 +2,7 @@
 use Rattle.std.proofs.Common.{◌≡◌, ◌∙◌, refl, ap, sym, subst, ℕ, ◌<◌, ◌≤◌, eqb, leb, Bool, true, false, cond, List, [], ◌∷◌, ◌++◌, Some, None, length, length-append, arith, ℤ, pos, inl, inr, ◌^◌}
 use Rattle.std.specs.Prelude.{◌&&◌, unsigned_abs, neg_ℤ}
 use Rattle.std.specs.List.{list_all}
-use Rattle.std.proofs.lemmas.Bool.{le-leb, leb-true, eqb-true}
+use Rattle.std.proofs.lemmas.Bool.{le-leb, leb-true, eqb-true, and_parts}
 use Rattle.std.proofs.lemmas.List.{append-nil}
 use borrow.Author.Tests.{ltb-true, ltb-false}
 use Rattle.pc_rows.specs.Linear.{in_range, InRange}
@@ -17,13 +17,9 @@ use Rattle.pc_cert.specs.Words.{is_empty, is_positive, is_count, is_numeral, wor
 use Rattle.pc_cert.proofs.Decimals.{decimal_begins, IsDigit}
 use Rattle.pc_cert.proofs.Splits.{Begins}
 
-pub and_is : (b c : Bool) → (b && c) ≡ true → (b ≡ true) × (c ≡ true)
-and_is true c h = (refl, h)
-and_is false c h = cc
-
 each_passes : (p : ℕ → Bool) (w : Bytes) → list_all p w ≡ true → EachPasses p w
 each_passes p [] h = tt
-each_passes p (b ∷ w) h = let both = and_is (p b) (list_all p w) h in (both.0, each_passes p w both.1)
+each_passes p (b ∷ w) h = let both = and_parts (p b) (list_all p w) h in (both.0, each_passes p w both.1)
 
 all_pass : (p : ℕ → Bool) (w : Bytes) → EachPasses p w → list_all p w ≡ true
 all_pass p [] h = refl
@@ -32,8 +28,8 @@ all_pass p (b ∷ w) h = rw h.0 (all_pass p w h.1)
 positive_meant : (w : Bytes) → is_positive w ≡ true → IsPositive w
 positive_meant [] h = absurd (cc)
 positive_meant (b ∷ w) h =
-    let both = and_is (leb 49 b && leb b 57) (list_all in_number w) h in
-    let bounds = and_is (leb 49 b) (leb b 57) both.0 in
+    let both = and_parts (leb 49 b && leb b 57) (list_all in_number w) h in
+    let bounds = and_parts (leb 49 b) (leb b 57) both.0 in
     (leb-true 49 b bounds.0, leb-true b 57 bounds.1, each_passes in_number w both.1)
 
 positive_test : (w : Bytes) → IsPositive w → is_positive w ≡ true

@@ -1,7 +1,7 @@
 -- A part more of a line of a proof.
 use Rattle.std.proofs.Common.{◌≡◌, ◌≢◌, refl, ap, sym, subst, ℕ, ◌+◌, ◌<◌, ◌≤◌, Bool, true, false, not, cond, leb, ltb, List, [], ◌∷◌, ◌++◌, length, Option, Some, None, Result, Ok, Err, ℤ, pos, negsuc, arith}
 use Rattle.std.specs.Prelude.{◌&&◌}
-use Rattle.std.proofs.lemmas.Bool.{leb-true}
+use Rattle.std.proofs.lemmas.Bool.{leb-true, and_parts}
 use borrow.Author.Tests.{ltb-true}
 use Rattle.pc_rows.specs.declared.proof.Part.{Part}
 use Rattle.pc_rows.specs.declared.system.TheConstants.{PREMISES}
@@ -15,7 +15,6 @@ use Rattle.pc_cert.specs.declared.fault.CertFault.{CertFault}
 use Rattle.pc_cert.specs.Words.{Words, is_count, is_numeral, are_pairs}
 use Rattle.pc_cert.specs.Faults.{part_keeps}
 use Rattle.pc_cert.specs.LineReaders.{broken, next_part, parts_from}
-use Rattle.pc_cert.proofs.Numerals.{and_is}
 use Rattle.pc_cert.proofs.LineSteps.{part}
 
 pub not_zero : (z : ℤ) → not (is_zero z) ≡ true → z ≢ pos 0
@@ -41,9 +40,9 @@ next_by : (n least : ℕ) (i m : Bytes) (ws new : Words) (p : Part) (t u : Bool)
     IsNext n least (i ∷ m ∷ ws) p new
 next_by n least i m ws new p true true e f g =
     let same = some_same (part (natural_of i) (integer_of m)) p ws new g in
-    let three = and_is (leb least (natural_of i) && ltb (natural_of i) PREMISES && in_range (integer_of m)) (not (is_zero (integer_of m))) f in
-    let two = and_is (leb least (natural_of i) && ltb (natural_of i) PREMISES) (in_range (integer_of m)) three.0 in
-    let bounds = and_is (leb least (natural_of i)) (ltb (natural_of i) PREMISES) two.0 in
+    let three = and_parts (leb least (natural_of i) && ltb (natural_of i) PREMISES && in_range (integer_of m)) (not (is_zero (integer_of m))) f in
+    let two = and_parts (leb least (natural_of i) && ltb (natural_of i) PREMISES) (in_range (integer_of m)) three.0 in
+    let bounds = and_parts (leb least (natural_of i)) (ltb (natural_of i) PREMISES) two.0 in
     subst (λ q. IsNext n least (i ∷ m ∷ ws) q new) same.0
     (subst (IsNext n least (i ∷ m ∷ ws) (part (natural_of i) (integer_of m))) same.1
     (record {

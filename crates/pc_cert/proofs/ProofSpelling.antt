@@ -2,7 +2,7 @@
 use Rattle.std.proofs.Common.{◌≡◌, ◌≢◌, ◌∙◌, refl, ap, ℕ, zero, suc, ◌+◌, ◌<◌, ◌≤◌, ◌^◌, leb, ltb, true, not, List, [], ◌∷◌, arith, ℤ, pos, negsuc}
 use Rattle.std.specs.Prelude.{unsigned_abs, ◌&&◌}
 use Rattle.std.specs.List.{AllByRecursion, flat_map}
-use Rattle.std.proofs.lemmas.Bool.{leb-true, le-leb, lt-ltb, ne_eqb}
+use Rattle.std.proofs.lemmas.Bool.{leb-true, le-leb, lt-ltb, ne_eqb, and_parts}
 use borrow.Author.Tests.{ltb-true}
 use Rattle.pc_rows.specs.declared.proof.Part.{Part}
 use Rattle.pc_rows.specs.declared.system.TheConstants.{PREMISES}
@@ -12,20 +12,19 @@ use Rattle.pc_text.specs.Bytes.{Bytes}
 use Rattle.pc_text.specs.Digits.{natural_of}
 use Rattle.pc_text.specs.Numerals.{numeral, integer_of}
 use Rattle.pc_text.proofs.NumeralTexts.{integer_numeral}
+use Rattle.pc_rows.proofs.Ranges.{in_is}
 use Rattle.pc_cert.specs.Words.{Words, is_count, is_numeral, are_pairs}
 use Rattle.pc_cert.specs.Faults.{Proof as ProofLine, has_form, keeps_rules, part_keeps, pairs_keep}
 use Rattle.pc_cert.specs.Readers.{parts_value, proof_value}
 use Rattle.pc_cert.specs.CertificateTexts.{proof_line}
-use Rattle.pc_cert.proofs.Numerals.{and_is, numeral_of, integer_is_numeral, count_is, natural_count, natural_integer}
+use Rattle.pc_cert.proofs.Numerals.{numeral_of, integer_is_numeral, count_is, natural_count, natural_integer}
 use Rattle.pc_cert.proofs.PartSteps.{not_zero}
 use Rattle.pc_cert.proofs.PlainWords.{IsPlain, numeral_plain}
-use Rattle.pc_cert.proofs.RowSpelling.{in_range_of}
 use Rattle.pc_cert.proofs.Spelled.{IsSpelled}
+use Rattle.pc_cert.proofs.LineLaws.{proof_with}
+use Rattle.pc_cert.proofs.LineSteps.{part}
 
-part : ℕ → ℤ → Part
-part i z = record { index = i; multiplier = z }
-
-part_line : Part → Words
+abbrev pub part_line : Part → Words
 part_line p = numeral (pos p.index) ∷ numeral p.multiplier ∷ []
 
 -- ---- from words to parts
@@ -39,9 +38,9 @@ record Keeps (least : ℕ) (i m : Bytes) : Type 0 where
 
 keeps_is : (least : ℕ) (i m : Bytes) → part_keeps least i m ≡ true → Keeps least i m
 keeps_is least i m h =
-    let three = and_is (leb least (natural_of i) && ltb (natural_of i) PREMISES && in_range (integer_of m)) (not (is_zero (integer_of m))) h in
-    let two = and_is (leb least (natural_of i) && ltb (natural_of i) PREMISES) (in_range (integer_of m)) three.0 in
-    let bounds = and_is (leb least (natural_of i)) (ltb (natural_of i) PREMISES) two.0 in
+    let three = and_parts (leb least (natural_of i) && ltb (natural_of i) PREMISES && in_range (integer_of m)) (not (is_zero (integer_of m))) h in
+    let two = and_parts (leb least (natural_of i) && ltb (natural_of i) PREMISES) (in_range (integer_of m)) three.0 in
+    let bounds = and_parts (leb least (natural_of i)) (ltb (natural_of i) PREMISES) two.0 in
     record {
       risen = leb-true least (natural_of i) bounds.0;
       premise = ltb-true (natural_of i) PREMISES bounds.1;
@@ -58,8 +57,8 @@ from_least : (least : ℕ) (ws : Words) → are_pairs ws ≡ true → pairs_keep
 from_least least [] h g = tt
 from_least least (i ∷ []) h g = tt
 from_least least (i ∷ m ∷ ws) h g =
-    let form = and_is (is_count i && is_numeral m) (are_pairs ws) h in
-    let rules = and_is (part_keeps least i m) (pairs_keep (natural_of i + 1) ws) g in
+    let form = and_parts (is_count i && is_numeral m) (are_pairs ws) h in
+    let rules = and_parts (part_keeps least i m) (pairs_keep (natural_of i + 1) ws) g in
     let keeps = keeps_is least i m rules.0 in
     let risen = keeps.risen in
     (risen, from_more (natural_of i + 1) least (parts_value ws) (omega arith) (from_least (natural_of i + 1) ws form.1 rules.1))
@@ -72,8 +71,8 @@ parts_good : (least : ℕ) (ws : Words) → are_pairs ws ≡ true → pairs_keep
 parts_good least [] h g = record { rising = tt; each = tt }
 parts_good least (i ∷ []) h g = record { rising = tt; each = tt }
 parts_good least (i ∷ m ∷ ws) h g =
-    let form = and_is (is_count i && is_numeral m) (are_pairs ws) h in
-    let rules = and_is (part_keeps least i m) (pairs_keep (natural_of i + 1) ws) g in
+    let form = and_parts (is_count i && is_numeral m) (are_pairs ws) h in
+    let rules = and_parts (part_keeps least i m) (pairs_keep (natural_of i + 1) ws) g in
     let keeps = keeps_is least i m rules.0 in
     let more = parts_good (natural_of i + 1) ws form.1 rules.1 in
     record {
@@ -82,12 +81,11 @@ parts_good least (i ∷ m ∷ ws) h g =
     }
 
 parts_line : (ws : Words) → are_pairs ws ≡ true → flat_map part_line (parts_value ws) ≡ ws
-unfolding part_line
 parts_line [] h = refl
 parts_line (i ∷ []) h = absurd (cc)
 parts_line (i ∷ m ∷ ws) h =
-    let form = and_is (is_count i && is_numeral m) (are_pairs ws) h in
-    let words = and_is (is_count i) (is_numeral m) form.0 in
+    let form = and_parts (is_count i && is_numeral m) (are_pairs ws) h in
+    let words = and_parts (is_count i) (is_numeral m) form.0 in
     let index = count_is i words.0 in
     let multiplier = numeral_of m words.1 in
     let more = parts_line ws form.1 in
@@ -96,7 +94,6 @@ parts_line (i ∷ m ∷ ws) h =
 -- ---- from parts to words
 
 pairs_of : (ps : List Part) → are_pairs (flat_map part_line ps) ≡ true
-unfolding part_line
 pairs_of [] = refl
 pairs_of (p ∷ ps) = rw (natural_count p.index, integer_is_numeral p.multiplier) (pairs_of ps)
 
@@ -107,25 +104,23 @@ zero_not (negsuc n) h = refl
 
 keeps_of : (least : ℕ) (p : Part) → least ≤ p.index → IsPart p → part_keeps least (numeral (pos p.index)) (numeral p.multiplier) ≡ true
 keeps_of least p h g =
-    rw (natural_integer p.index, integer_numeral p.multiplier, le-leb least p.index h, lt-ltb p.index PREMISES g.index, in_range_of p.multiplier g.in_range, zero_not p.multiplier g.not_zero) refl
+    rw (natural_integer p.index, integer_numeral p.multiplier, le-leb least p.index h, lt-ltb p.index PREMISES g.index, in_is p.multiplier g.in_range, zero_not p.multiplier g.not_zero) refl
 
 from_above : (n : ℕ) (ps : List Part) → AllByRecursion (λ q. n < q.index) ps → AllByRecursion (λ q. n + 1 ≤ q.index) ps
 from_above n [] h = tt
 from_above n (p ∷ ps) h = (omega (arith, h.0), from_above n ps h.1)
 
 rules_of : (least : ℕ) (ps : List Part) → AllByRecursion (λ q. least ≤ q.index) ps → IsRising ps → AllByRecursion IsPart ps → pairs_keep least (flat_map part_line ps) ≡ true
-unfolding part_line
 rules_of least [] f r e = refl
 rules_of least (p ∷ ps) f r e =
     let more = rules_of (p.index + 1) ps (from_above p.index ps r.0) r.1 e.1 in
     rw (keeps_of least p f.0 e.0, natural_integer p.index) more
 
-from_zero : (ps : List Part) → AllByRecursion (λ q. 0 ≤ q.index) ps
+pub from_zero : (ps : List Part) → AllByRecursion (λ q. 0 ≤ q.index) ps
 from_zero [] = tt
 from_zero (p ∷ ps) = (omega arith, from_zero ps)
 
 parts_of : (ps : List Part) → parts_value (flat_map part_line ps) ≡ ps
-unfolding part_line part
 parts_of [] = refl
 parts_of (p ∷ ps) =
     ap (λ i. part i (integer_of (numeral p.multiplier)) ∷ parts_value (flat_map part_line ps)) (natural_integer p.index)
@@ -133,41 +128,33 @@ parts_of (p ∷ ps) =
     ∙ ap (λ qs. p ∷ qs) (parts_of ps)
 
 parts_plain : (ps : List Part) → AllByRecursion IsPlain (flat_map part_line ps)
-unfolding part_line
 parts_plain [] = tt
 parts_plain (p ∷ ps) = (numeral_plain (pos p.index), (numeral_plain p.multiplier, parts_plain ps))
 
 -- ---- proofs
 
 pub proof_plain : (p : Proof) → AllByRecursion IsPlain (proof_line p)
-unfolding part_line
 proof_plain p = (numeral_plain p.goal, parts_plain p.parts)
 
-proof_with : ℤ → List Part → Proof
-proof_with z ps = record { goal = z; parts = ps }
-
 back_good : (ws : Words) → (g : Bytes) → (is_numeral g && are_pairs ws) ≡ true → (in_range (integer_of g) && pairs_keep 0 ws) ≡ true → IsProof (proof_value (g ∷ ws)) × (proof_line (proof_value (g ∷ ws)) ≡ g ∷ ws)
-unfolding part_line
 back_good ws g h k =
-    let form = and_is (is_numeral g) (are_pairs ws) h in
-    let rules = and_is (in_range (integer_of g)) (pairs_keep 0 ws) k in
+    let form = and_parts (is_numeral g) (are_pairs ws) h in
+    let rules = and_parts (in_range (integer_of g)) (pairs_keep 0 ws) k in
     let first = numeral_of g form.0 in
     let more = parts_line ws form.1 in
     (record { goal = ltb-true (unsigned_abs (integer_of g)) (2 ^ 127) rules.0; parts = parts_good 0 ws form.1 rules.1 }, cc)
 
 forth_value : (p : Proof) → proof_value (proof_line p) ≡ p
-unfolding part_line proof_with
 forth_value p = ap (λ z. proof_with z (parts_value (flat_map part_line p.parts))) (integer_numeral p.goal) ∙ ap (proof_with p.goal) (parts_of p.parts)
 
 forth_rules : (p : Proof) → IsProof p → (in_range (integer_of (numeral p.goal)) && pairs_keep 0 (flat_map part_line p.parts)) ≡ true
-forth_rules p h = rw (integer_numeral p.goal, in_range_of p.goal h.goal) (rules_of 0 p.parts (from_zero p.parts) h.parts.rising h.parts.each)
+forth_rules p h = rw (integer_numeral p.goal, in_is p.goal h.goal) (rules_of 0 p.parts (from_zero p.parts) h.parts.rising h.parts.each)
 
 back : (ws : Words) → has_form ProofLine ws ≡ true → keeps_rules ProofLine ws ≡ true → IsProof (proof_value ws) × (proof_line (proof_value ws) ≡ ws)
 back [] h k = absurd (cc)
 back (g ∷ ws) h k = back_good ws g h k
 
 pub proof_spelled : IsSpelled ProofLine proof_value proof_line IsProof
-unfolding part_line
 proof_spelled = record {
   back = back;
   plain = λ p h. (proof_plain p, refl);

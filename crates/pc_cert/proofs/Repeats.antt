@@ -1,7 +1,8 @@
 -- A reader that is repeated, one turn more.
-use Rattle.std.proofs.Common.{◌≡◌, ◌∙◌, refl, ap, sym, ℕ, suc, ◌+◌, ◌-◌, ◌<◌, ◌≤◌, List, [], ◌∷◌, ◌++◌, Result, Ok, Err, append_assoc, arith}
+use Rattle.std.proofs.Common.{◌≡◌, ◌∙◌, refl, ap, sym, ℕ, ◌+◌, ◌-◌, ◌<◌, ◌≤◌, List, [], ◌∷◌, ◌++◌, Result, Ok, Err, append_assoc, arith}
 use Rattle.pc_cert.specs.declared.fault.CertFault.{CertFault}
 use Rattle.pc_cert.specs.Readers.{◌>>=◌, Unread, Reader, repeated}
+use Rattle.pc_cert.proofs.LineSteps.{one_less}
 
 -- what was read so far, before what is read
 abbrev pub behind : {A : Type 0} → List A → Result (List A × Unread) CertFault → Result (List A × Unread) CertFault
@@ -11,9 +12,6 @@ behind_cons : {A : Type 0} (found : List A) (x : A) (r : Result (List A × Unrea
     behind (found ++ x ∷ []) r ≡ behind found (r >>= (λ xs. Ok (x ∷ xs.0, xs.1)))
 behind_cons found x (Ok xs) = ap (λ ys. Ok (ys, xs.1)) (append_assoc found (x ∷ []) xs.0)
 behind_cons found x (Err e) = refl
-
-one_less : (n i : ℕ) → i < n → n - i ≡ suc (n - (i + 1))
-one_less n i h = omega arith
 
 module _ {A : Type 0} (r : ℕ → Reader A) (k i : ℕ) (found : List A) (s : Unread) (within : i < k) where
   -- a turn that reads

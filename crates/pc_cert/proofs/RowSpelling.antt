@@ -2,20 +2,22 @@
 use Rattle.std.proofs.Common.{◌≡◌, ◌∙◌, refl, ap, sym, ℕ, zero, suc, ◌-◌, ◌≤◌, ◌^◌, true, List, [], ◌∷◌, ◌++◌, length, map, take, replicate, get_or, length-append, length-take-le, lit<, arith, ℤ, pos}
 use Rattle.std.specs.Prelude.{unsigned_abs}
 use Rattle.std.specs.List.{list_all}
-use Rattle.std.proofs.lemmas.Bool.{lt-ltb}
+use Rattle.std.proofs.lemmas.Bool.{and_parts}
 use Rattle.std.proofs.lemmas.List.{length-map, length-replicate}
 use borrow.Author.Tests.{ltb-true}
 use Rattle.pc_rows.specs.declared.row.TheConstants.{VARIABLES}
-use Rattle.pc_rows.specs.Linear.{Linear, InRange, AllInRange, in_range, IsOver, IsRow}
+use Rattle.pc_rows.specs.Linear.{Linear, AllInRange, in_range, IsOver, IsRow}
 use Rattle.pc_text.specs.Numerals.{numeral, integer_of}
 use Rattle.pc_text.proofs.NumeralTexts.{integer_numeral}
+use Rattle.pc_rows.proofs.Ranges.{in_all, all_in}
 use Rattle.pc_cert.specs.Words.{Words, is_numeral, are_numerals}
 use Rattle.pc_cert.specs.Faults.{Row}
 use Rattle.pc_cert.specs.Readers.{row_value}
 use Rattle.pc_cert.specs.CertificateTexts.{row_line}
-use Rattle.pc_cert.proofs.Numerals.{and_is, empty_is, numeral_of, integer_is_numeral}
+use Rattle.pc_cert.proofs.Numerals.{empty_is, numeral_of, integer_is_numeral}
 use Rattle.pc_cert.proofs.PlainWords.{numerals_plain}
 use Rattle.pc_cert.proofs.Spelled.{IsSpelled}
+use Rattle.pc_cert.proofs.LineLaws.{linear}
 
 -- ---- numerals and their numbers
 
@@ -27,7 +29,7 @@ pub numerals_of_integers : (n : ℕ) (ws : Words) → are_numerals n ws ≡ true
 numerals_of_integers zero ws h = let none = empty_is ws h in (rw none refl, ap length none)
 numerals_of_integers (suc n) [] h = absurd (cc)
 numerals_of_integers (suc n) (w ∷ ws) h =
-    let both = and_is (is_numeral w) (are_numerals n ws) h in
+    let both = and_parts (is_numeral w) (are_numerals n ws) h in
     let first = numeral_of w both.0 in
     let more = numerals_of_integers n ws both.1 in
     let rest = more.0 in
@@ -37,18 +39,7 @@ pub are_numerals_of : (zs : List ℤ) → are_numerals (length zs) (map numeral 
 are_numerals_of [] = refl
 are_numerals_of (z ∷ zs) = rw (integer_is_numeral z) (are_numerals_of zs)
 
-all_in_range : (zs : List ℤ) → list_all in_range zs ≡ true → AllInRange zs
-all_in_range [] h = tt
-all_in_range (z ∷ zs) h = let both = and_is (in_range z) (list_all in_range zs) h in (ltb-true (unsigned_abs z) (2 ^ 127) both.0, all_in_range zs both.1)
-
-pub in_range_of : (z : ℤ) → InRange z → in_range z ≡ true
-in_range_of z h = lt-ltb (unsigned_abs z) (2 ^ 127) h
-
-range_of_all : (zs : List ℤ) → AllInRange zs → list_all in_range zs ≡ true
-range_of_all [] h = refl
-range_of_all (z ∷ zs) h = rw (in_range_of z h.0) (range_of_all zs h.1)
-
-range_of_front : (n : ℕ) (zs : List ℤ) → AllInRange zs → AllInRange (take n zs)
+pub range_of_front : (n : ℕ) (zs : List ℤ) → AllInRange zs → AllInRange (take n zs)
 range_of_front zero zs h = tt
 range_of_front (suc n) [] h = tt
 range_of_front (suc n) (z ∷ zs) h = (h.0, range_of_front n zs h.1)
@@ -90,9 +81,6 @@ take_front (z ∷ zs) ys = ap (λ xs. z ∷ xs) (take_front zs ys)
 
 -- ---- rows
 
-linear : ℤ → List ℤ → Linear
-linear c zs = record { constant = c; coefficients = zs }
-
 -- a row that the code may hold, over the first variables
 abbrev pub IsRowOver : ℕ → Linear → Type 0
 IsRowOver v r = IsRow r × IsOver v r
@@ -102,14 +90,14 @@ module _ (v : ℕ) (most : v ≤ VARIABLES) where
   value_good [] h g = absurd (cc)
   value_good (c ∷ ws) h g =
       let zs = map integer_of ws in
-      let both = and_is (is_numeral c) (are_numerals v ws) h in
-      let range = and_is (in_range (integer_of c)) (list_all in_range zs) g in
+      let both = and_parts (is_numeral c) (are_numerals v ws) h in
+      let range = and_parts (in_range (integer_of c)) (list_all in_range zs) g in
       let long : length zs ≡ v = length-map ws integer_of ∙ (numerals_of_integers v ws both.1).1 in
       let sum = length-append zs (replicate (VARIABLES - v) (pos 0)) in
       let zeros = length-replicate {A = ℤ} (VARIABLES - v) (pos 0) in (
         record {
           wide = omega arith;
-          in_range = (ltb-true (unsigned_abs (integer_of c)) (2 ^ 127) range.0, range_of_both zs (replicate (VARIABLES - v) (pos 0)) (all_in_range zs range.1) (range_of_zeros (VARIABLES - v)));
+          in_range = (ltb-true (unsigned_abs (integer_of c)) (2 ^ 127) range.0, range_of_both zs (replicate (VARIABLES - v) (pos 0)) (in_all zs range.1) (range_of_zeros (VARIABLES - v)));
         },
         λ k past. zero_behind zs (VARIABLES - v) k (omega arith),
       )
@@ -118,7 +106,7 @@ module _ (v : ℕ) (most : v ≤ VARIABLES) where
   value_line [] h = absurd (cc)
   value_line (c ∷ ws) h =
       let zs = map integer_of ws in
-      let both = and_is (is_numeral c) (are_numerals v ws) h in
+      let both = and_parts (is_numeral c) (are_numerals v ws) h in
       let told = numerals_of_integers v ws both.1 in
       let long : v ≡ length zs = sym (length-map ws integer_of ∙ told.1) in
       let front : take v (zs ++ replicate (VARIABLES - v) (pos 0)) ≡ zs = ap (λ n. take n (zs ++ replicate (VARIABLES - v) (pos 0))) long ∙ take_front zs (replicate (VARIABLES - v) (pos 0)) in
@@ -127,7 +115,6 @@ module _ (v : ℕ) (most : v ≤ VARIABLES) where
       cc
 
   line_value : (r : Linear) → IsRowOver v r → row_value v (row_line v r) ≡ r
-  unfolding linear
   line_value r h =
       let cs = r.coefficients in
       let wide = h.0.wide in
@@ -146,7 +133,7 @@ module _ (v : ℕ) (most : v ≤ VARIABLES) where
   line_rules : (r : Linear) → IsRowOver v r → list_all in_range (map integer_of (row_line v r)) ≡ true
   line_rules r h =
       let zs = r.constant ∷ take v r.coefficients in
-      ap (list_all in_range) (integers_of_numerals zs) ∙ range_of_all zs (h.0.in_range.0, range_of_front v r.coefficients h.0.in_range.1)
+      ap (list_all in_range) (integers_of_numerals zs) ∙ all_in zs (h.0.in_range.0, range_of_front v r.coefficients h.0.in_range.1)
 
   pub row_spelled : IsSpelled (Row v) (row_value v) (row_line v) (IsRowOver v)
   row_spelled = record {

@@ -1,12 +1,13 @@
 -- The parts of a row determine the row.
-use Rattle.std.proofs.Common.{◌≡◌, ◌≢◌, ◌⊎◌, inl, inr, ℕ, suc, ◌≤◌, Bool, true, false, cond, ◌&&◌, List, [], ◌∷◌, ◌++◌, length, get_or, refl, sym, ap, ◌∙◌, arith, ℤ, pos, negsuc}
+use Rattle.std.proofs.Common.{◌≡◌, ◌≢◌, ◌⊎◌, inl, inr, ℕ, suc, ◌≤◌, Bool, true, false, cond, ◌&&◌, List, [], ◌∷◌, ◌++◌, length, get_or, refl, sym, ap, ◌∙◌, arith, ℤ, pos}
 use Rattle.std.specs.Prelude.{All, unsigned_abs}
 use Rattle.std.specs.List.{AllByRecursion, AllPairs}
 use Rattle.std.proofs.lemmas.List.Elements.{All-head, All-tail}
 use Rattle.std.proofs.lemmas.List.{append-nil}
-use Rattle.std.proofs.lemmas.Bool.{eqb-true}
 use Rattle.pc_rows.specs.Linear.{Linear, is_zero}
 use Rattle.pc_text.specs.Bytes.{Bytes}
+use Rattle.pc_rows.proofs.Lists.{zero_is}
+use Rattle.pc_rows.proofs.Algebra.{same_row}
 use Rattle.pc_cert.specs.Conditions.{Part, term, constant_part, terms, part_text, sum_text, is_empty, constant_text}
 use Rattle.pc_cert.specs.Law.{AreNames, IsOverNames}
 use Rattle.pc_cert.proofs.Names.{StandsAlone, all_stand_alone, all_differ}
@@ -63,10 +64,6 @@ same_zeros (c ∷ cs) (d ∷ ds) long h g =
     let second : d ≡ pos 0 = g 0 (omega arith) in
     cc
 
-zero_if : (c : ℤ) → is_zero c ≡ true → c ≡ pos 0
-zero_if (pos n) e = ap pos (eqb-true n 0 e)
-zero_if (negsuc n) e = absurd (cc)
-
 abbrev Same : List ℤ → List ℤ → List Part → List Part → Type 0
 Same cs ds t u = (cs ≡ ds) × (t ≡ u)
 
@@ -79,7 +76,7 @@ module _ (name : Bytes) (names : List Bytes) (h : StandsAlone name) (alone : Alo
       Same (c ∷ cs) (d ∷ ds) t u
   step true true c d cs ds t u no_t no_u zero_c zero_d again e =
       let rest = again e in
-      let first : c ≡ d = zero_if c zero_c ∙ sym (zero_if d zero_d) in
+      let first : c ≡ d = zero_is c zero_c ∙ sym (zero_is d zero_d) in
       let tail : cs ≡ ds = rest.0 in
       (cc, rest.1)
   step true false c d cs ds t u no_t no_u zero_c zero_d again e = absurd (no_term_of names cs t name d _ alone h apart no_t e)
@@ -123,7 +120,7 @@ abbrev TellsConstant : List Part → ℤ → Type 0
 TellsConstant t k = ((t ≡ []) × (k ≡ pos 0)) ⊎ (t ≡ constant_part k ∷ [])
 
 tells_by : (b : Bool) (k : ℤ) → is_zero k ≡ b → TellsConstant (cond b [] (constant_part k ∷ [])) k
-tells_by true k e = inl (refl, zero_if k e)
+tells_by true k e = inl (refl, zero_is k e)
 tells_by false k e = inr refl
 
 constant_told : (ps : List Part) (k : ℤ) → TellsConstant (constant_behind ps k) k
@@ -148,13 +145,6 @@ no_term_behind (p ∷ ps) k = no_term_behind_by (is_zero k) k
 abbrev pub parts : List Bytes → Linear → List Part
 parts names r = terms names r.coefficients ++ constant_behind (terms names r.coefficients) r.constant
 
-row_of : ℤ → List ℤ → Linear
-row_of constant coefficients = record { constant = constant; coefficients = coefficients }
-
-same_linear : (r q : Linear) → r.constant ≡ q.constant → r.coefficients ≡ q.coefficients → r ≡ q
-unfolding row_of
-same_linear r q constant coefficients = ap (λ c. row_of c r.coefficients) constant ∙ ap (row_of q.constant) coefficients
-
 pub same_parts :
     (names : List Bytes) (r q : Linear) → AreNames names → IsOverNames names r → IsOverNames names q →
     parts names r ≡ parts names q → r ≡ q
@@ -164,7 +154,7 @@ same_parts names r q h over_r over_q e =
     let same = same_terms names r.coefficients q.coefficients t u (all_stand_alone names h.words) (all_differ names h.distinct)
     (no_term_behind (terms names r.coefficients) r.constant) (no_term_behind (terms names q.coefficients) q.constant)
     (over_r.wide ∙ sym over_q.wide) over_r.within over_q.within e in
-    same_linear r q
+    same_row r q
     (same_told t u r.constant q.constant (constant_told (terms names r.coefficients) r.constant) (constant_told (terms names q.coefficients) q.constant) same.1)
     same.0
 

@@ -1,25 +1,25 @@
 -- How long the text of a certificate may be.
-use Rattle.std.proofs.Common.{◌≡◌, ℕ, zero, suc, ◌+◌, ◌*◌, ◌^◌, ◌≤◌, ◌<◌, refl, sym, ap, ◌∙◌, arith, List, [], ◌∷◌, ◌++◌, length, map, take, length-append, codes, Bool, true, false, cond, ℤ, pos, negsuc, unsigned_abs, length-take}
+use Rattle.std.proofs.Common.{◌≡◌, ℕ, suc, ◌+◌, ◌*◌, ◌^◌, ◌≤◌, ◌<◌, refl, arith, List, [], ◌∷◌, ◌++◌, length, map, take, length-append, codes, Bool, true, false, cond, ℤ, pos, negsuc, unsigned_abs, length-take}
 use Rattle.std.specs.Prelude.{◌==◌}
-use Rattle.std.specs.List.{AllByRecursion, flat_map, join_by}
+use Rattle.std.specs.List.{AllByRecursion, flat_map}
 use Rattle.std.specs.Int.Digits.{digits_of}
 use Rattle.std.proofs.lemmas.Int.Digits.{length-digits_of-le}
 use Rattle.std.proofs.lemmas.List.{length-map}
 use Rattle.pc_text.specs.Bytes.{Bytes}
 use Rattle.pc_text.specs.Numerals.{numeral, natural_text}
 use Rattle.pc_rows.specs.declared.proof.Part.{Part}
-use Rattle.pc_rows.specs.declared.row.TheConstants.{VARIABLES}
-use Rattle.pc_rows.specs.declared.rows.TheConstants.{ROWS}
 use Rattle.pc_rows.specs.declared.system.TheConstants.{PREMISES}
 use Rattle.pc_rows.specs.Linear.{Linear, InRange, AllInRange, IsRow}
 use Rattle.pc_rows.specs.Joins.{IsRows}
-use Rattle.pc_rows.specs.Evidence.{Proof, IsPart, IsParts, IsProof, IsRising, IsAbove}
+use Rattle.pc_rows.specs.Evidence.{Proof, IsPart, IsProof, IsRising}
 use Rattle.pc_cert.specs.declared.certificate.Annotated.{Annotated}
 use Rattle.pc_cert.specs.declared.certificate.TheConstants.{POINTS, EDGES}
 use Rattle.pc_cert.specs.Words.{Words}
-use Rattle.pc_cert.specs.Certificate.{Certificate, IsShowable, IsCertificate, IsAnnotation, IsAnnotated}
+use Rattle.pc_cert.specs.Certificate.{IsAnnotation, IsAnnotated}
 use Rattle.pc_cert.specs.Lengths.{alternative_bytes, TextsAreShort}
-use Rattle.pc_cert.specs.CertificateTexts.{counts, row_line, proof_line, point_lines, edge_lines, numbered, alternative_lines, certificate_lines, line_text, lines_text, certificate_text}
+use Rattle.pc_cert.specs.CertificateTexts.{counts, row_line, proof_line, point_lines, edge_lines, numbered, alternative_lines, line_text, lines_text}
+use Rattle.pc_cert.proofs.RowSpelling.{range_of_front}
+use Rattle.pc_cert.proofs.ProofSpelling.{from_zero}
 
 -- ---- numerals
 
@@ -108,16 +108,11 @@ numerals_short : (zs : List ℤ) → AllInRange zs → AllByRecursion IsShort (m
 numerals_short [] h = tt
 numerals_short (z ∷ zs) h = (in_range_short z h.0, numerals_short zs h.1)
 
-front_in_range : (n : ℕ) (zs : List ℤ) → AllInRange zs → AllInRange (take n zs)
-front_in_range zero zs h = tt
-front_in_range (suc n) [] h = tt
-front_in_range (suc n) (z ∷ zs) h = (h.0, front_in_range n zs h.1)
-
 row_short : (variables : ℕ) (r : Linear) → IsRow r → length (line_text (row_line variables r)) ≤ 698
 row_short variables r h =
     let wide = h.wide in
     let front = take variables r.coefficients in
-    let words = numerals_short (r.constant ∷ front) (h.in_range.0, front_in_range variables r.coefficients h.in_range.1) in
+    let words = numerals_short (r.constant ∷ front) (h.in_range.0, range_of_front variables r.coefficients h.in_range.1) in
     let s = line_short (row_line variables r) words in
     omega (arith, length-map (r.constant ∷ front) numeral, length-take variables r.coefficients)
 
@@ -144,10 +139,6 @@ rising_few k (p ∷ ps) le low rising each =
     above : (qs : List Part) → AllByRecursion (λ q. p.index < q.index) qs → AllByRecursion (λ q. suc p.index ≤ q.index) qs
     above [] h = tt
     above (q ∷ qs) h = (let l = h.0 in omega arith, above qs h.1)
-
-from_zero : (ps : List Part) → AllByRecursion (λ q. 0 ≤ q.index) ps
-from_zero [] = tt
-from_zero (p ∷ ps) = (omega arith, from_zero ps)
 
 abbrev pairs : List Part → Words
 pairs ps = flat_map (λ part. numeral (pos part.index) ∷ numeral part.multiplier ∷ []) ps

@@ -12,6 +12,7 @@ use Rattle.pc_rows.proofs.Joining.{each_join}
 use Rattle.pc_cert.specs.Words.{Words}
 use Rattle.pc_cert.specs.CertificateTexts.{row_line, line_text, lines_text, numbered, version_line}
 use Rattle.pc_cert.proofs.WordLists.{joined}
+use Rattle.pc_cert.proofs.ProofSpelling.{part_line}
 
 -- the words of a proof with these parts
 abbrev pub proof_words : ℤ → List Part → Words
@@ -52,14 +53,10 @@ line_end ws old mid new e f = grown old mid new (joined ws) (10 ∷ []) e f
 
 -- ---- parts
 
-part_words : Part → Words
-part_words part = numeral (pos part.index) ∷ numeral part.multiplier ∷ []
-
 proof_more : (goal : ℤ) (ps : List Part) (p : Part) → joined (proof_words goal (ps ++ p ∷ [])) ≡ joined (proof_words goal ps) ++ (codes " " ++ numeral (pos p.index) ++ (codes " " ++ numeral p.multiplier))
-unfolding part_words
 proof_more goal ps p =
-    ap (λ ws. joined (numeral goal ∷ ws)) (flat_map-append part_words ps (p ∷ []))
-    ∙ further (numeral goal) (flat_map part_words ps) (part_words p)
+    ap (λ ws. joined (numeral goal ∷ ws)) (flat_map-append part_line ps (p ∷ []))
+    ∙ further (numeral goal) (flat_map part_line ps) (part_line p)
     ∙ ap (λ z. joined (proof_words goal ps) ++ ((codes " " ++ numeral (pos p.index)) ++ z)) (append-nil (codes " " ++ numeral p.multiplier))
 
 -- a part more of a proof

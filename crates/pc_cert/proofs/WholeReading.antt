@@ -3,6 +3,7 @@ use Rattle.std.proofs.Common.{◌≡◌, ◌∙◌, refl, ap, sym, subst, ℕ, �
 use Rattle.std.specs.Prelude.{◌&&◌}
 use Rattle.std.specs.List.{AllByRecursion}
 use Rattle.std.proofs.lemmas.List.{append-nil}
+use Rattle.std.proofs.lemmas.Bool.{and_parts}
 use Rattle.pc_rows.specs.declared.system.TheConstants.{PREMISES}
 use Rattle.pc_rows.specs.Linear.{Linear, IsRow, IsOver}
 use Rattle.pc_rows.specs.Joins.{IsRows}
@@ -18,13 +19,14 @@ use Rattle.pc_cert.specs.Faults.{Version, Graph, sizes_of}
 use Rattle.pc_cert.specs.Readers.{◌>>=◌, Unread, read_line, alternatives_reader, whole, certificate_reader}
 use Rattle.pc_cert.specs.CertificateTexts.{version_line, certificate_lines}
 use Rattle.pc_cert.proofs.WordLists.{joined}
-use Rattle.pc_cert.proofs.Numerals.{and_is, empty_is}
+use Rattle.pc_cert.proofs.Numerals.{empty_is}
 use Rattle.pc_cert.proofs.RowSpelling.{IsRowOver}
 use Rattle.pc_cert.proofs.HeadSpelling.{AreWithin, graph_line, version_spelled, sizes_spelled}
-use Rattle.pc_cert.proofs.LineReading.{unread_of, ok_same, line_reads}
+use Rattle.pc_cert.proofs.LineReading.{ok_same, line_reads}
 use Rattle.pc_cert.proofs.ListReading.{bind_ok, taken_both, AreFew}
 use Rattle.pc_cert.proofs.AlternativeReading.{IsPoint, IsEdge, IsWhole}
 use Rattle.pc_cert.proofs.CertificateReading.{alternatives_lines, alternatives_read}
+use Rattle.pc_cert.proofs.EndedLines.{unread_of}
 
 -- ---- what is read is within the limits
 
@@ -32,7 +34,7 @@ each_both : {A : Type 0} (P Q R : A → Type 0) → ((x : A) → P x → Q x × 
 each_both P Q R f [] h = (tt, tt)
 each_both P Q R f (x ∷ xs) h = let first = f x h.0 in let more = each_both P Q R f xs h.1 in ((first.0, more.0), (first.1, more.1))
 
-each_of : {A : Type 0} (P Q R : A → Type 0) → ((x : A) → P x → Q x → R x) → (xs : List A) → AllByRecursion P xs → AllByRecursion Q xs → AllByRecursion R xs
+pub each_of : {A : Type 0} (P Q R : A → Type 0) → ((x : A) → P x → Q x → R x) → (xs : List A) → AllByRecursion P xs → AllByRecursion Q xs → AllByRecursion R xs
 each_of P Q R f [] h g = tt
 each_of P Q R f (x ∷ xs) h g = (f x h.0 g.0, each_of P Q R f xs h.1 g.1)
 
@@ -59,11 +61,10 @@ annotated_of z a h g = record {
 sizes_in : Certificate → Sizes
 sizes_in c = record { points = c.points; edges = c.edges; variables = c.variables }
 
-certificate_with : Sizes → List Annotated → Certificate
+abbrev pub certificate_with : Sizes → List Annotated → Certificate
 certificate_with z all = record { points = z.points; edges = z.edges; variables = z.variables; alternatives = all }
 
 certificate_is : (z : Sizes) (all : List Annotated) → AreWithin z → AreFew (IsWhole z) ALTERNATIVES all → IsCertificate (certificate_with z all) × IsShowable (certificate_with z all)
-unfolding certificate_with
 certificate_is z all h g =
     let both = each_both (IsWhole z) IsAnnotated (IsAnnotation z.points z.edges z.variables) (annotated_is z) all g.each in
     let few = g.few in
@@ -81,20 +82,18 @@ alternatives_of c h g = record {
 }
 
 nothing : (lines : List Bytes) (tail : Bytes) → (is_empty lines && is_empty tail) ≡ true → (lines ≡ []) × (tail ≡ [])
-nothing lines tail h = let both = and_is (is_empty lines) (is_empty tail) h in (empty_is lines both.0, empty_is tail both.1)
+nothing lines tail h = let both = and_parts (is_empty lines) (is_empty tail) h in (empty_is lines both.0, empty_is tail both.1)
 
 whole_by : (over : Bool) (c d : Certificate) (n : ℕ) → cond over (Ok c) (Err (fault.Trailing n)) ≡ Ok d → (over ≡ true) × (c ≡ d)
 whole_by true c d n e = (refl, ok_same c d e)
 whole_by false c d n e = absurd (cc)
 
 certificate_lines_are : (z : Sizes) (all : List Annotated) → certificate_lines (certificate_with z all) ≡ version_line ∷ graph_line z ∷ alternatives_lines z.variables all
-unfolding certificate_with
 certificate_lines_are z all = refl
 
 -- a certificate that is read is one whose lines these are, with nothing behind them
 pub certificate_sound : (n : ℕ) (ls : List Bytes) (tail : Bytes) (c : Certificate) → certificate_reader (unread_of n ls tail) ≡ Ok c →
     IsCertificate c × IsShowable c × (ls ≡ map joined (certificate_lines c)) × (tail ≡ [])
-unfolding certificate_with
 certificate_sound n ls tail c e =
     let s = unread_of n ls tail in
     let first = bind_ok (Unit {0} × Unread) Certificate (read_line {A = Unit {0}} Version (λ _. tt) s)

@@ -3,7 +3,7 @@ use Rattle.std.proofs.Common.{◌≡◌, ◌∙◌, refl, ap, sym, ℕ, ◌+◌,
 use Rattle.std.specs.Prelude.{bytes_eq, codes}
 use Rattle.std.specs.List.{position, position_or_len, count_by, join_by, join_with_byte}
 use Rattle.std.proofs.lemmas.List.{append-nil}
-use Rattle.std.proofs.lemmas.Bool.{ltb-false}
+use Rattle.std.proofs.lemmas.Bool.{ltb-false, and_parts}
 use Rattle.std.proofs.lemmas.List.Sums.{position_or_len_is, fails_before_first}
 use Rattle.std.proofs.lemmas.List.Splits.{slice_split_first, slice_split_none, length-slice_split, join_with_byte-slice_split}
 use Rattle.std.proofs.lemmas.List.Quantifiers.{position-Some}
@@ -11,7 +11,7 @@ use Rattle.std.proofs.lemmas.Slice.Eq.{bytes_eq-Decides}
 use Rattle.pc_text.specs.Bytes.{Bytes}
 use Rattle.std.specs.Option.{is_some}
 use Rattle.pc_cert.specs.Words.{Words, is_space, words, words_left, is_empty, is_named, is_word}
-use Rattle.pc_cert.proofs.Numerals.{and_is, empty_is}
+use Rattle.pc_cert.proofs.Numerals.{empty_is}
 
 -- up to the first space, and behind it
 pub words_first : (b : Bytes) (n : ℕ) → position is_space b ≡ Some n → words b ≡ take n b ∷ words (drop (n + 1) b)
@@ -70,7 +70,7 @@ same_tests false false h g = refl
 pub named_is : (name : Bytes) (p : Words → Bool) (ws : Words) → is_named name p ws ≡ true → (rest : Words) × (ws ≡ name ∷ rest) × (p rest ≡ true)
 named_is name p [] h = absurd (cc)
 named_is name p (w ∷ ws) h =
-    let both = and_is (bytes_eq w name) (p ws) h in
+    let both = and_parts (bytes_eq w name) (p ws) h in
     (ws, ap (λ z. z ∷ ws) ((bytes_eq-Decides w name).0 both.0), both.1)
 
 pub word_is : (name : Bytes) (ws : Words) → is_word name ws ≡ true → ws ≡ name ∷ []

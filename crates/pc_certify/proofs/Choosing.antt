@@ -1,20 +1,19 @@
 -- What is chosen of a graph, and the certificate that it makes.
-use Rattle.std.proofs.Common.{◌≡◌, ◌≤◌, ℕ, List, [], ◌∷◌, length, refl, sym, ap, subst, ◌∙◌, arith, inl, inr, true, Option, Some, None, Result, Ok, Err}
+use Rattle.std.proofs.Common.{◌≡◌, ◌≤◌, List, [], ◌∷◌, length, refl, sym, ap, subst, ◌∙◌, arith, inl, inr, true, Option, Some, None, Result, Ok, Err}
 use Rattle.std.specs.Prelude.{◌⊎◌}
 use Rattle.std.specs.List.{AllByRecursion}
 use Rattle.pc_rows.specs.declared.rows.NoMemory.{NoMemory}
 use Rattle.pc_rows.specs.Linear.{Linear, State, MeetsAll}
-use Rattle.pc_graph.specs.declared.point.PointInfo.{PointInfo}
 use Rattle.pc_graph.specs.Flow.{Flow}
 use Rattle.pc_graph.specs.Shape.{IsGraph}
-use Rattle.pc_lower.specs.Annotation.{rows_at, no_rows, AreOver, NoHeads}
+use Rattle.pc_lower.specs.Annotation.{rows_at, no_rows, NoHeads}
 use Rattle.pc_lower.specs.Need.{need}
 use Rattle.pc_lower.specs.Laws.{IsComplete}
 use Rattle.pc_cert.specs.declared.certificate.Annotated.{Annotated}
 use Rattle.pc_cert.specs.Certificate.{IsAnnotation, IsShowable, entry_rows, condition_of}
 use Rattle.pc_entail.proofs.Finding.{contradictory_states}
+use Rattle.pc_graph.proofs.Lists.{each_more}
 use Rattle.pc_replay.specs.Accepts.{Accepts}
-use Rattle.pc_replay.proofs.Alls.{each_more}
 use Rattle.pc_certify.specs.declared.inference.TheConstants.{CANDIDATES}
 use Rattle.pc_certify.specs.Causes.{Fails}
 use Rattle.pc_certify.specs.Claims.{claim, IsProved}
@@ -23,10 +22,6 @@ use Rattle.pc_certify.specs.Proving.{EdgeDone, AnnotatedIs}
 use Rattle.pc_certify.proofs.Claimed.{proved_is_accepted, few_proofs, annotation_proved}
 use Rattle.pc_certify.proofs.Pairs.{pairs_long}
 use Rattle.pc_certify.proofs.Taming.{tame_is_proved}
-
-pub no_rows_over : (n : ℕ) (points : List PointInfo) → AreOver n (no_rows points)
-no_rows_over n [] = tt
-no_rows_over n (point ∷ points) = (tt, no_rows_over n points)
 
 -- what was proved of the need is the candidate
 pub candidate_is : (g : Flow) (none : NoHeads g.points) (heads a : List (List Linear)) → heads ≡ no_rows g.points → a ≡ need g heads → IsComplete g a →

@@ -13,10 +13,10 @@ use Rattle.pc_graph.specs.Flow.{Flow}
 use Rattle.pc_lower.specs.Annotation.{rows_at, AreOver}
 use Rattle.pc_lower.specs.Laws.{IsComplete}
 use Rattle.pc_cert.specs.declared.certificate.Annotated.{Annotated}
+use Rattle.pc_graph.proofs.Lists.{each_more}
 use Rattle.pc_replay.specs.Accepts.{RowProved, EdgeProved, AlternativeProved, Accepts}
 use Rattle.pc_replay.specs.Flaws.{asked}
 use Rattle.pc_replay.specs.Shape.{IsShaped}
-use Rattle.pc_replay.proofs.Alls.{each_more}
 use Rattle.pc_replay.proofs.Ruled.{owed_is_asked}
 use Rattle.pc_certify.specs.Causes.{premises, Fails}
 use Rattle.pc_certify.specs.Claims.{claim, IsProved}

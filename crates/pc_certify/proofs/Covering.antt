@@ -1,35 +1,20 @@
 -- Goals that the premises cover are proved by the negated goal and at most one premise.
 use Rattle.std.proofs.Common.{◌≡◌, ℕ, ◌+◌, ℤ, pos, negsuc, ◌+ℤ◌, ◌≤ℤ◌, List, [], ◌∷◌, sym, ap, subst, ◌∙◌, arith, Bool, true, false, Option, Some, None, slice_get, Ok, Err, Result}
-use Rattle.std.specs.Prelude.{◌||◌, int_le}
+use Rattle.std.specs.Prelude.{◌||◌}
 use Rattle.std.specs.List.{AllByRecursion, list_any, position_from}
-use Rattle.std.specs.Ordering.{int_eq}
-use Rattle.std.specs.Cmp.Lexicographic.{pointwise}
-use Rattle.std.specs.Cmp.Rules.{signed_items}
 use Rattle.std.proofs.lemmas.Int.{ints}
 use Rattle.std.proofs.lemmas.Option.{slice_get_within, get_or_from_slice_get}
 use Rattle.pc_rows.specs.declared.rows.NoMemory.{NoMemory}
-use Rattle.pc_rows.specs.Linear.{Linear, InRange, AllInRange, IsInRange, IsNumber, is_number, add_lists, negate_list, negation, sum_of, scaled_by}
-use Rattle.pc_rows.specs.Joins.{IsAlways, IsAtMost, is_always, is_at_most, is_covered}
+use Rattle.pc_rows.specs.Linear.{Linear, InRange, AllInRange, IsInRange, IsNumber, add_lists, negate_list, negation, sum_of, scaled_by}
+use Rattle.pc_rows.specs.Joins.{is_always, is_at_most, is_covered}
 use Rattle.pc_rows.specs.Evidence.{Proof}
 use Rattle.pc_rows.specs.Shows.{nothing_row, total}
 use Rattle.pc_rows.proofs.Algebra.{scaled_one}
-use Rattle.pc_rows.proofs.Joining.{number_is_meant}
-use Rattle.pc_rows.proofs.Ranges.{and_is}
+use Rattle.pc_rows.proofs.Joining.{always_is, at_most_is}
 use Rattle.pc_replay.specs.Accepts.{Proves}
 use Rattle.pc_replay.proofs.Alls.{none_passes}
 use Rattle.pc_certify.specs.Proving.{alone, with_premise, ByPremise, CoveredIs}
 use Rattle.pc_certify.proofs.Positions.{position_found, none_found}
-
-le_is : (a b : ℤ) → int_le a b ≡ true → a ≤ℤ b
-le_is a b h = grind (arith, ints)
-
-always_is : (r : Linear) → is_always r ≡ true → IsAlways r
-always_is r h = let b = and_is (is_number r) (int_le (pos 0) r.constant) h in ((number_is_meant r).0 b.0, le_is (pos 0) r.constant b.1)
-
-at_most_is : (a r : Linear) → is_at_most a r ≡ true → IsAtMost a r
-at_most_is a r h =
-    let b = and_is (pointwise int_eq a.coefficients r.coefficients) (int_le a.constant r.constant) h in
-    ((signed_items a.coefficients r.coefficients).0 b.0, le_is a.constant r.constant b.1)
 
 -- the coefficients of a negation and of what it negates cancel
 cancelled : (cs : List ℤ) → AllByRecursion (λ c. c ≡ pos 0) (add_lists (negate_list cs) cs)

@@ -1,12 +1,9 @@
 -- What is inferred of straight programs is exact.
-use Rattle.std.proofs.Common.{◌≡◌, ℕ, ◌-◌, pos, ◌≤ℤ◌, List, [], ◌∷◌, ◌++◌, length, refl, sym, ap, subst, ◌∙◌, arith, Bool, true}
+use Rattle.std.proofs.Common.{◌≡◌, ℕ, ◌-◌, pos, ◌≤ℤ◌, List, [], ◌∷◌, ◌++◌, refl, sym, subst, ◌∙◌, Bool, true}
 use Rattle.std.specs.Prelude.{replicate, ◌&&◌}
 use Rattle.std.specs.List.{AllByRecursion as Each}
-use Rattle.std.proofs.lemmas.List.{length-replicate}
-use Rattle.std.proofs.Common.{length-append}
 use Rattle.pc_text.specs.declared.place.Place.{Place}
-use Rattle.pc_rows.specs.Linear.{Linear, value, MeetsAll}
-use Rattle.pc_rows.proofs.First.{value_of_first, value_at_entry, zero_from_all}
+use Rattle.pc_rows.specs.Linear.{Linear, MeetsAll}
 use Rattle.pc_syntax.specs.Loops.{whiles, whiles_step, whiles_of}
 use Rattle.pc_syntax.specs.Values.{State}
 use Rattle.pc_syntax.specs.declared.tree.Test.{Test as Condition}
@@ -14,39 +11,27 @@ use Rattle.pc_syntax.specs.declared.tree.Test.TheVariants as test
 use Rattle.pc_syntax.specs.declared.tree.Stmt.{Stmt, fold-roll-Stmt}
 use Rattle.pc_syntax.specs.declared.tree.Stmt.TheOpen as stmt
 use Rattle.pc_syntax.proofs.Results.{and_is}
-use Rattle.pc_graph.specs.Flow.{Flow}
+use Rattle.pc_syntax.proofs.Stmts.{by_stmt}
+use Rattle.pc_syntax.proofs.Trees.{all_by}
 use Rattle.pc_graph.specs.Lowering.{graph}
-use Rattle.pc_graph.specs.Shape.{IsGraph}
 use Rattle.pc_graph.specs.Straight.{is_any, straight_step, is_straight, are_straight}
-use Rattle.pc_graph.specs.Walk.{IsEntry, entered}
 use Rattle.pc_graph.proofs.Bridge.{steps_correspond}
-use Rattle.pc_graph.proofs.Cases.{by_cases}
 use Rattle.pc_graph.proofs.Graphs.{graph_kept}
-use Rattle.pc_graph.proofs.Lists.{each_all}
 use Rattle.pc_graph.proofs.LoopFree.{loop_free_graphs}
 use Rattle.pc_graph.proofs.Straights.{straight_graphs}
 use Rattle.pc_graph.proofs.Witness.{broken_has_walk}
+use Rattle.pc_graph.proofs.Lists.{none_joined}
 use Rattle.pc_lower.specs.Annotation.{rows_at, no_rows}
 use Rattle.pc_lower.proofs.Paying.{need_is_owed}
-use Rattle.pc_replay.proofs.Sound.{accepted_programs_are_safe}
+use Rattle.pc_replay.proofs.Sound.{accepted_programs_are_safe, entered_value, entered_long}
 use Rattle.pc_certify.specs.Inferring.{graph_need}
 use Rattle.pc_certify.specs.Laws.{IsStraight, InferIsExactOnGraphs, InferIsExact, StraightIsLoopFree}
 
 -- the locals are 0 at the entry
 
-entered_value : (r : Linear) (m : ℕ) (s : State) → value r (s ++ replicate m (pos 0)) ≡ value r s
-entered_value r m s =
-    sym (value_at_entry (length s) m r s refl) ∙ value_of_first (length s) r s ∙ ap (λ t. value r t) (zero_from_all (length s) s (omega arith))
-
 left_meets : (rows : List Linear) (m : ℕ) (s : State) → MeetsAll (s ++ replicate m (pos 0)) rows → MeetsAll s rows
 left_meets [] m s h = tt
 left_meets (r ∷ rows) m s h = (subst (λ z. pos 0 ≤ℤ z) (entered_value r m s) h.0, left_meets rows m s h.1)
-
-entered_long : (g : Flow) (s : State) → IsGraph g → IsEntry g s → length (entered g s) ≡ g.variables
-entered_long g s kept entry =
-    let few = kept.parameters in
-    let zeros = length-replicate (g.variables - g.params) (pos 0) in
-    length-append s (replicate (g.variables - g.params) (pos 0)) ∙ omega arith
 
 pub infer_is_exact_on_graphs : InferIsExactOnGraphs
 infer_is_exact_on_graphs g c kept straight exact s entry not =
@@ -66,9 +51,6 @@ FreeOne x = FreeBy (is_straight x) (whiles x)
 free_by : (b c : Bool) (ps qs : List Place) → b ≡ c → ps ≡ qs → FreeBy c qs → FreeBy b ps
 free_by b c ps qs eb ep h e = ep ∙ h (sym eb ∙ e)
 
-none_joined : (ps qs : List Place) → ps ≡ [] → qs ≡ [] → (ps ++ qs) ≡ []
-none_joined ps qs e f = ap (λ (z : List Place). z ++ qs) e ∙ f
-
 list_free : (ss : List Stmt) → Each FreeOne ss → FreeBy (are_straight ss) (whiles_of ss)
 list_free [] all e = refl
 list_free (x ∷ ss) all e =
@@ -83,7 +65,7 @@ split_free test.Any xs ys hx hy e =
     none_joined (whiles_of xs) (whiles_of ys) (hx ok.0) (hy ok.1)
 
 free : (x : Stmt) → FreeOne x
-free x = by_cases FreeOne
+free x = by_stmt FreeOne
     (λ place v r. free_by _ true _ [] (fold-roll-Stmt Bool straight_step (stmt.Set place v r)) (fold-roll-Stmt (List Place) whiles_step (stmt.Set place v r)) (λ e. refl))
     (λ place t xs ys hx hy. free_by _ (is_any t && (are_straight xs && are_straight ys)) _ (whiles_of xs ++ whiles_of ys)
     (fold-roll-Stmt Bool straight_step (stmt.If place t xs ys)) (fold-roll-Stmt (List Place) whiles_step (stmt.If place t xs ys))
@@ -94,7 +76,7 @@ free x = by_cases FreeOne
     x
 
 pub straight_is_loop_free : StraightIsLoopFree
-straight_is_loop_free p e = list_free p.body (each_all FreeOne free p.body) e
+straight_is_loop_free p e = list_free p.body (all_by FreeOne free p.body) e
 
 pub infer_is_exact : InferIsExact
 infer_is_exact p c straight tame accepts exact s entry =

@@ -8,11 +8,6 @@ use Rattle.pc_certify.specs.Lists.{Pairwise}
 
 -- what holds of each item, or of some
 
-pub each_got : {A : Type 0} (P : A → Type 0) (xs : List A) (i : ℕ) (x : A) → AllByRecursion P xs → slice_get xs i ≡ Some x → P x
-each_got P [] i x h got = absurd (cc)
-each_got P (y ∷ xs) zero x h got = let same : y ≡ x = cc in subst P same h.0
-each_got P (y ∷ xs) (suc i) x h got = each_got P xs i x h.1 got
-
 pub any_got : {A : Type 0} (P : A → Type 0) (xs : List A) (i : ℕ) (x : A) → P x → slice_get xs i ≡ Some x → AnyOf P xs
 any_got P [] i x h got = absurd (cc)
 any_got P (y ∷ xs) zero x h got = let same : x ≡ y = cc in inl (subst P same h)

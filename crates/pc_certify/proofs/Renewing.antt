@@ -1,5 +1,5 @@
 -- An alternative with other rows at the entry, and other proofs of the edge from it.
-use Rattle.std.proofs.Common.{◌≡◌, ◌≢◌, ℕ, zero, suc, ◌<◌, ◌≤◌, List, [], ◌∷◌, ◌++◌, length, drop, set, sym, ap, subst, ◌∙◌, arith, inl, inr, true, false, Option, Some, None, Result, Ok, Err, slice_get, append-nil}
+use Rattle.std.proofs.Common.{◌≡◌, ◌≢◌, ℕ, ◌<◌, ◌≤◌, List, [], ◌∷◌, ◌++◌, length, drop, set, sym, ap, subst, ◌∙◌, arith, inl, inr, true, false, Option, Some, None, Result, Ok, Err, slice_get, append-nil}
 use Rattle.std.specs.Prelude.{◌⊎◌, IfSome}
 use Rattle.std.specs.List.{AllByRecursion}
 use Rattle.std.proofs.lemmas.List.{get_or-set_same, get_or-set_other, length-set}
@@ -16,9 +16,10 @@ use Rattle.pc_graph.specs.Lists.{AnyOf}
 use Rattle.pc_graph.specs.Shape.{IsGraph, IsHead, LeadsUp}
 use Rattle.pc_lower.specs.Annotation.{rows_at, AreOver}
 use Rattle.pc_cert.specs.declared.certificate.Annotated.{Annotated}
+use Rattle.pc_graph.proofs.Lists.{each_more}
+use Rattle.pc_lower.proofs.Variables.{each_set}
 use Rattle.pc_replay.specs.Accepts.{RowProved}
 use Rattle.pc_replay.specs.Flaws.{asked}
-use Rattle.pc_replay.proofs.Alls.{each_more}
 use Rattle.pc_certify.specs.Causes.{premises, RowFails}
 use Rattle.pc_certify.specs.Claims.{IsProved}
 use Rattle.pc_certify.specs.Lists.{Pairwise}
@@ -96,11 +97,6 @@ module _ (g : Flow) (kept : IsGraph g) where
             (subst (λ (z : Arc). EdgeDone new z found) (sym is) done, edges_stay edges proofs leads.1 others h.1)
 
     -- what was replaced is proved
-    each_set : (P : List Linear → Type 0) (all : List (List Linear)) (i : ℕ) (r : List Linear) → P r → AllByRecursion P all → AllByRecursion P (set all i r)
-    each_set P [] i r p h = tt
-    each_set P (x ∷ all) zero r p h = (p, h.1)
-    each_set P (x ∷ all) (suc i) r p h = (h.0, each_set P all i r p h.1)
-
     pub replaced_proved : (b old : Annotated) → b.rows ≡ new → old.rows ≡ a → IsProved g old → AllByRecursion (IsOver g.params) rows → 0 < length g.points →
         Pairwise (EdgeDone new) g.edges b.proofs → IsProved g b
     replaced_proved b old same was proved over some done =

@@ -1,14 +1,15 @@
 -- On a tame graph without loops all that is computed for the proofs is in range.
-use Rattle.std.proofs.Common.{◌≡◌, ℕ, zero, suc, ◌+◌, ◌*◌, ◌^◌, ◌<◌, ◌≤◌, ℤ, pos, negsuc, ◌+ℤ◌, ◌*ℤ◌, neg_ℤ, List, [], ◌∷◌, set, subst, arith, Bool, true, false, cond, Some, inl, inr}
+use Rattle.std.proofs.Common.{◌≡◌, ℕ, zero, suc, ◌+◌, ◌*◌, ℤ, pos, negsuc, ◌+ℤ◌, ◌*ℤ◌, neg_ℤ, List, [], ◌∷◌, set, subst, arith, Bool, true, false, cond, Some, inl, inr}
 use Rattle.std.specs.List.{AllByRecursion, find}
 use Rattle.std.proofs.lemmas.Int.{ints}
-use Rattle.pc_rows.specs.Linear.{Linear, IsInRange, coefficient, is_zero, add_lists, scale_list, negate_list, zero_from, negation}
+use Rattle.pc_rows.specs.Linear.{Linear, coefficient, is_zero, add_lists, scale_list, negate_list, zero_from, negation}
 use Rattle.pc_rows.specs.Bounds.{IsWithin, AreWithin, Within, AllWithin}
 use Rattle.pc_rows.specs.Joins.{is_at_most}
 use Rattle.pc_rows.specs.Substitution.{carried, lesser}
-use Rattle.pc_rows.proofs.Bounding.{product_within, sum_within, opposite_within, lesser_within, within_in_range, all_in_range, more_within, scale_within, add_within, negate_within, at_within, set_within, small_substitution_fits}
+use Rattle.pc_rows.proofs.Bounding.{product_within, sum_within, opposite_within, lesser_within, within_in_range, more_within, scale_within, add_within, negate_within, at_within, set_within, small_substitution_fits}
 use Rattle.pc_rows.proofs.Joining.{each_join}
 use Rattle.pc_syntax.specs.Machine.{end_of}
+use Rattle.pc_elim.proofs.SmallRows.{row_more, row_in_range}
 use Rattle.pc_graph.specs.declared.what.What.{What}
 use Rattle.pc_graph.specs.declared.what.What.TheVariants.{Enter, Test, Set, Check}
 use Rattle.pc_graph.specs.Arc.{Arc}
@@ -49,19 +50,16 @@ carried_within m r form x lo hi hr hf hl hh =
           (set_within m r.coefficients x (pos 0) hr.coefficients zero_is_within));
     }
 
-wider : (m n : ℕ) (r : Linear) → m ≤ n → Within m r → Within n r
-wider m n r le h = record { constant = omega (arith, h.constant); coefficients = more_within m n r.coefficients le h.coefficients }
-
 substituted_within : (m : ℕ) (r form : Linear) (x : ℕ) (lo hi : ℤ) (t : Bool) → Within m r → Within m form → IsWithin m lo → IsWithin m hi →
     Within (carried_bound m) (cond t r (carried r x form lo hi))
-substituted_within m r form x lo hi true hr hf hl hh = wider m (carried_bound m) r (omega arith) hr
+substituted_within m r form x lo hi true hr hf hl hh = row_more m (carried_bound m) r (omega arith) hr
 substituted_within m r form x lo hi false hr hf hl hh = carried_within m r form x lo hi hr hf hl hh
 
 back_within : (w : What) (r : Linear) → HasTameNumbers w → Within tame_bound r → Within (carried_bound tame_bound) (back w r)
 back_within (Enter params) r tame h =
-    wider tame_bound (carried_bound tame_bound) (back (Enter params) r) (omega arith) record { constant = h.constant; coefficients = zeros_within tame_bound params r.coefficients h.coefficients }
-back_within (Test own) r tame h = wider tame_bound (carried_bound tame_bound) r (omega arith) h
-back_within (Check own) r tame h = wider tame_bound (carried_bound tame_bound) r (omega arith) h
+    row_more tame_bound (carried_bound tame_bound) (back (Enter params) r) (omega arith) record { constant = h.constant; coefficients = zeros_within tame_bound params r.coefficients h.coefficients }
+back_within (Test own) r tame h = row_more tame_bound (carried_bound tame_bound) r (omega arith) h
+back_within (Check own) r tame h = row_more tame_bound (carried_bound tame_bound) r (omega arith) h
 back_within (Set x form lo hi) r tame h = substituted_within tame_bound r form x (end_of lo) (end_of hi) (is_zero (coefficient r x)) h tame.0 tame.1 tame.2
 
 back_fits : (w : What) (r : Linear) → HasTameNumbers w → Within tame_bound r → BackFits w r
@@ -79,9 +77,6 @@ negation_within m r h =
       constant = sum_within m 1 (neg_ℤ r.constant) (negsuc 0) (opposite_within m r.constant h.constant) one;
       coefficients = more_within m (m + 1) (negate_list r.coefficients) (omega arith) (negate_within m r.coefficients h.coefficients);
     }
-
-row_in_range : (m : ℕ) (r : Linear) → m < 2 ^ 127 → Within m r → IsInRange r
-row_in_range m r lt h = (within_in_range m r.constant lt h.constant, all_in_range m r.coefficients lt h.coefficients)
 
 each_found : {A : Type 0} (P : A → Type 0) (p : A → Bool) (xs : List A) (x : A) → AllByRecursion P xs → find p xs ≡ Some x → P x
 each_found P p [] x h e = absurd (cc)

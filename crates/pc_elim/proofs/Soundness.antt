@@ -1,9 +1,10 @@
 -- Multipliers that are found make a contradiction of the rows at the start.
 use Rattle.std.proofs.Common.{◌≡◌, ℕ, zero, suc, ◌+◌, ◌<◌, ℤ, pos, negsuc, ◌+ℤ◌, ◌*ℤ◌, neg_ℤ, refl, sym, subst, ◌∙◌, ap, arith, ◌≤ℤ◌, List, [], ◌∷◌, Bool, true, false, cond, length, get_or, ◌⊎◌, inl, inr}
-use Rattle.std.specs.Prelude.{int_lt, ◌&&◌}
+use Rattle.std.specs.Prelude.{int_lt}
 use Rattle.std.specs.List.{AllByRecursion, list_all}
 use Rattle.std.proofs.lemmas.Int.{ints}
 use Rattle.std.proofs.Math.IntN.{*ℤ-zero}
+use Rattle.std.proofs.lemmas.Bool.{and_from}
 use Rattle.pc_rows.specs.Linear.{Linear, add_lists, scale_list, sum_of, scaled_by, is_zero}
 use Rattle.pc_rows.specs.Shows.{nothing_row}
 use Rattle.pc_rows.proofs.Ring.{mul_neg, mul_comm, product_not_negative}
@@ -121,10 +122,7 @@ no_variable [] h = refl
 no_variable (c ∷ cs) h =
     let e = ap is_zero (h zero (omega arith)) in
     let f = no_variable cs (λ j lt. h (suc j) (omega arith)) in
-    both_true (is_zero c) (list_all is_zero cs) e f
-  where
-    both_true : (a b : Bool) → a ≡ true → b ≡ true → (a && b) ≡ true
-    both_true a b e f = rw (e, f) refl
+    and_from (is_zero c) (list_all is_zero cs) e f
 
 ended_if : (w : ℕ) (ms : List ℤ) (t : Bool) (r : Made) (rs : List Made) → is_contradiction r ≡ t → cond t (Shown r.multipliers) (ended w rs) ≡ Shown ms → ((is_contradiction r ≡ true) × (r.multipliers ≡ ms)) ⊎ (ended w rs ≡ Shown ms)
 ended_if w ms true r rs e h = inl (e, cc)

@@ -14,20 +14,21 @@ use Rattle.pc_syntax.specs.Values.{State}
 use Rattle.pc_syntax.specs.declared.program.Program.{Program}
 use Rattle.pc_syntax.specs.declared.tree.Stmt.{Stmt}
 use Rattle.pc_syntax.proofs.Results.{and_is}
+use Rattle.pc_syntax.proofs.Stmts.{by_stmt}
+use Rattle.pc_syntax.proofs.Trees.{all_by}
 use Rattle.pc_graph.specs.Arc.{Enter, Test, Arc, arc}
 use Rattle.pc_graph.specs.Corresponds.{IsNoStep, IsStep, RunsHaveWalks, WalksHaveRuns, SameSteps, StepsCorrespond}
 use Rattle.pc_graph.specs.Lists.{In}
 use Rattle.pc_graph.specs.Lowering.{graph, made, no_steps}
 use Rattle.pc_graph.specs.Rest.{rest, rests_of}
 use Rattle.pc_graph.specs.Walk.{Pass, Keeps, Walks, Walk, GraphSafe}
-use Rattle.pc_graph.proofs.Cases.{by_cases}
-use Rattle.pc_graph.proofs.Lists.{each_at, each_in, each_more, each_all}
+use Rattle.pc_graph.proofs.Lists.{each_at, each_in, each_more}
 use Rattle.pc_graph.proofs.Rules.{TiesOne, list_ties, set_ties, if_ties, while_ties, check_ties, assume_ties}
 use Rattle.pc_graph.proofs.Tied.{Holds, ArcOk, Fired, Fires, Simulates, fires, joins, Tied}
 
 statement_ties : (vars : ℕ) (g : List Arc) (ρ : ℕ → List Stmt) (js : List Arc) (x : Stmt) → TiesOne vars g ρ js x
 statement_ties vars g ρ js x =
-    by_cases (TiesOne vars g ρ js) (set_ties vars g ρ js) (if_ties vars g ρ js) (while_ties vars g ρ js) (check_ties vars g ρ js) (assume_ties vars g ρ js) x
+    by_stmt (TiesOne vars g ρ js) (set_ties vars g ρ js) (if_ties vars g ρ js) (while_ties vars g ρ js) (check_ties vars g ρ js) (assume_ties vars g ρ js) x
 
 pub run_append : (cs ds : List ℤ) (o : Outcome) → run o (cs ++ ds) ≡ run (run o cs) ds
 run_append [] ds o = refl
@@ -154,7 +155,7 @@ module _ (p : Program) (s : State) (long : length s ≡ p.names.params) where
       (and_is (sane_stmts vars p.body) (nat_le (edges_of p.body) EDGES) b.1).0
 
   tied : Tied g ρ js 1 2 [] (length (rests_of p.body [])) (made p)
-  tied = list_ties vars g ρ js p.body (each_all (TiesOne vars g ρ js) (statement_ties vars g ρ js) p.body) 1 2 [] is_sane (omega arith) (omega arith) (sym (append-nil p.body))
+  tied = list_ties vars g ρ js p.body (all_by (TiesOne vars g ρ js) (statement_ties vars g ρ js) p.body) 1 2 [] is_sane (omega arith) (omega arith) (sym (append-nil p.body))
       (holds_from ρ (rests_of p.body []) 2 (λ i. let e : 2 + i ≡ suc (suc i) = omega arith in ap (λ q. rest p q) e))
       (each_more (λ e. In e (made p).edges) (λ e. In e g) (λ e m. inr m) (made p).edges (each_in (made p).edges)) (each_in (made p).joins)
 

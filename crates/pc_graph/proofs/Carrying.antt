@@ -6,10 +6,10 @@ use Rattle.pc_rows.proofs.Carrying.{substitution_is_exact}
 use Rattle.pc_rows.proofs.First.{value_of_first, zero_from_long}
 use Rattle.pc_syntax.specs.Machine.{end_of}
 use Rattle.pc_syntax.specs.Values.{State}
+use Rattle.pc_syntax.proofs.RowLemmas.{meets_left, meets_right}
 use Rattle.pc_graph.specs.Arc.{What, Enter, Test, Set, Check, IsFit}
 use Rattle.pc_graph.specs.Carry.{back_all, HasVariable, CarryingIsExact, OwedIsEnough}
 use Rattle.pc_graph.specs.Walk.{Pass}
-use Rattle.pc_graph.proofs.TestWays.{meets_left, meets_right}
 
 -- a state keeps its length over an edge
 pub same_length : (w : What) (s t : State) → Pass w s t → length t ≡ length s

@@ -14,11 +14,11 @@ use Rattle.pc_syntax.specs.declared.tree.Test.{Test as Condition}
 use Rattle.pc_syntax.specs.declared.tree.Test.TheVariants as test
 use Rattle.pc_syntax.specs.declared.tree.Stmt.{Stmt, fold-roll-Stmt}
 use Rattle.pc_syntax.specs.declared.tree.Stmt.TheOpen as stmt
+use Rattle.pc_syntax.proofs.Stmts.{by_stmt}
+use Rattle.pc_syntax.proofs.Trees.{all_by}
 use Rattle.pc_graph.specs.Arc.{Test, Check, arc}
 use Rattle.pc_graph.specs.Lowering.{Rule, one, tests, join_edges, assigned, rule, rule_step, rules}
 use Rattle.pc_graph.specs.Ways.{is_lone, apart, ways_of, ways}
-use Rattle.pc_graph.proofs.Cases.{by_cases}
-use Rattle.pc_graph.proofs.Lists.{each_all}
 use Rattle.pc_graph.proofs.Unrolled.{rule-if, rule-while}
 
 rows_by_counted : (o : Op) (l r : Linear) → length (rows_by o l r) ≡ cond (is_either o) 2 1
@@ -49,7 +49,7 @@ ways_counted : (t : Condition) → length (ways t true) + length (ways t false) 
 ways_counted test.Any = refl
 ways_counted (test.All cs) = ways_of_counted (is_lone cs) (rows_all cs) ∙ ap (λ n. 1 + n) (rows_counted cs)
 
-tests-length : (p q : ℕ) (ws : List (List Linear)) → length (tests p q ws) ≡ length ws
+pub tests-length : (p q : ℕ) (ws : List (List Linear)) → length (tests p q ws) ≡ length ws
 tests-length p q [] = refl
 tests-length p q (w ∷ ws) = let h = tests-length p q ws in omega arith
 
@@ -104,7 +104,7 @@ loop_counted place t tried xs j hx p n =
     omega (arith, length-append trues (a.edges ++ (arc a.last p (Test []) ∷ falses)), length-append a.edges (arc a.last p (Test []) ∷ falses))
 
 counted : (x : Stmt) → CountedOne x
-counted x = by_cases CountedOne
+counted x = by_stmt CountedOne
     (λ place v r. counted_by _ 1 _ (one place (assigned v r)) (fold-roll-Stmt ℕ edges_step (stmt.Set place v r)) (fold-roll-Stmt Rule rule_step (stmt.Set place v r)) (λ p n. refl))
     (λ place t xs ys hx hy. counted_by _ (test_edges t + 2 + sum (map edges xs) + sum (map edges ys)) _ (rule_step (stmt.If place t (map rule xs) (map rule ys)))
     (fold-roll-Stmt ℕ edges_step (stmt.If place t xs ys)) (rule-if place t xs ys) (split_counted place t xs ys (sum (map edges xs)) (sum (map edges ys)) (list_counted xs hx) (list_counted ys hy)))
@@ -115,4 +115,4 @@ counted x = by_cases CountedOne
     x
 
 pub all_counted : (ss : List Stmt) (p n : ℕ) → length (rules ss p n).edges ≡ sum (map edges ss)
-all_counted ss p n = list_counted ss (each_all CountedOne counted ss) p n
+all_counted ss p n = list_counted ss (all_by CountedOne counted ss) p n

@@ -1,8 +1,9 @@
 -- The graph of a program keeps what every graph keeps.
 use Rattle.std.proofs.Common.{◌≡◌, ◌≢◌, ℕ, ◌+◌, ◌<◌, ◌≤◌, ◌^◌, zero, suc, List, [], ◌∷◌, length, Bool, true, false, refl, ap, subst, ◌∙◌, arith, map, inl, inr}
-use Rattle.std.specs.Prelude.{◌⊎◌, ◌&&◌, ◌||◌, ◌==◌, nat_le, sum}
+use Rattle.std.specs.Prelude.{◌⊎◌, ◌&&◌, ◌==◌, nat_le, sum}
 use Rattle.std.specs.List.{AllByRecursion as Each, list_any}
 use Rattle.std.proofs.lemmas.Bool.Decides.{nat_tests}
+use Rattle.std.proofs.lemmas.Bool.{or_from, leb-true}
 use Rattle.pc_text.specs.declared.place.Place.{Place}
 use Rattle.pc_rows.specs.declared.row.TheConstants.{VARIABLES}
 use Rattle.pc_rows.specs.Linear.{IsOver}
@@ -13,14 +14,13 @@ use Rattle.pc_syntax.specs.Sane.{sane_stmts, edges, edges_of}
 use Rattle.pc_syntax.proofs.Results.{and_is}
 use Rattle.pc_graph.specs.declared.draft.Loop.{Loop}
 use Rattle.pc_graph.specs.declared.point.PointInfo.{PointInfo}
-use Rattle.pc_graph.specs.Arc.{Enter, Arc, arc}
+use Rattle.pc_graph.specs.Arc.{Arc}
 use Rattle.pc_graph.specs.Drawn.{Drawn, extended, entered}
 use Rattle.pc_graph.specs.Flow.{Flow}
 use Rattle.pc_graph.specs.Lowering.{rules, made, graph, points_from}
 use Rattle.pc_graph.specs.Shape.{IsHead, LeadsUp, IsGraph}
 use Rattle.pc_graph.proofs.Counts.{all_counted}
 use Rattle.pc_graph.proofs.Lists.{each_more, each_in}
-use Rattle.pc_graph.proofs.Ready.{le_of}
 use Rattle.pc_graph.proofs.Shapes.{HeadIn, IsUp, IsLoop, Shaped, all_shaped}
 use Rattle.pc_graph.proofs.Variables.{points_over}
 
@@ -38,14 +38,10 @@ head_point loops b (place ∷ places) (suc q) k e lt h = head_point loops (b + 1
 apart_from : (n : ℕ) → 0 < n → (n == 0) ≡ false
 apart_from n h = grind (arith, nat_tests)
 
-or_false : (a b : Bool) → a ≡ false → b ≡ false → (a || b) ≡ false
-or_false true b h k = cc
-or_false false b h k = k
-
 -- no loop begins at the entry
 no_head : (v : ℕ) (loops : List Loop) → Each (IsLoop v) loops → list_any (λ l. l.head == 0) loops ≡ false
 no_head v [] h = refl
-no_head v (l ∷ loops) h = or_false (l.head == 0) (list_any (λ l. l.head == 0) loops) (apart_from l.head h.0.away) (no_head v loops h.1)
+no_head v (l ∷ loops) h = or_from (l.head == 0) (list_any (λ l. l.head == 0) loops) (apart_from l.head h.0.away) (no_head v loops h.1)
 
 -- ---- a program
 
@@ -61,7 +57,7 @@ keeps p =
     let a = and_is (nat_le p.names.params n) (nat_le n VARIABLES && (sane_stmts n p.body && nat_le (edges_of p.body) EDGES)) p.sane in
     let b = and_is (nat_le n VARIABLES) (sane_stmts n p.body && nat_le (edges_of p.body) EDGES) a.1 in
     let c = and_is (sane_stmts n p.body) (nat_le (edges_of p.body) EDGES) b.1 in
-    record { params = le_of _ _ a.0; variables = le_of _ _ b.0; sane = c.0; edges = le_of _ _ c.1 }
+    record { params = leb-true _ _ a.0; variables = leb-true _ _ b.0; sane = c.0; edges = leb-true _ _ c.1 }
 
 pub made_shape : (p : Program) → Shaped (length p.names.names) 2 (made p)
 made_shape p = let k = keeps p in all_shaped (length p.names.names) k.variables p.body 1 2 k.sane (omega arith) (omega arith)

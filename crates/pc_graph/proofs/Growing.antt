@@ -7,10 +7,10 @@ use Rattle.pc_syntax.specs.declared.tree.Compare.{Compare}
 use Rattle.pc_syntax.specs.declared.tree.Test.{Test as Condition}
 use Rattle.pc_syntax.specs.declared.tree.Stmt.{Stmt, fold-roll-Stmt}
 use Rattle.pc_syntax.specs.declared.tree.Stmt.TheOpen as stmt
+use Rattle.pc_syntax.proofs.Stmts.{by_stmt}
+use Rattle.pc_syntax.proofs.Trees.{all_by}
 use Rattle.pc_graph.specs.Arc.{Test, Check}
 use Rattle.pc_graph.specs.Lowering.{Rule, one, assigned, rule, rule_step, rules}
-use Rattle.pc_graph.proofs.Cases.{by_cases}
-use Rattle.pc_graph.proofs.Lists.{each_all}
 use Rattle.pc_graph.proofs.Unrolled.{rule-if, rule-while}
 
 -- a rule leaves no number below the one that it began with
@@ -37,7 +37,7 @@ while_grows : (place : Place) (t : Condition) (tried : List Compare) (xs : List 
 while_grows place t tried xs hx p n = let a = hx n (n + 1) in omega arith
 
 pub grows : (x : Stmt) → Grows (rule x)
-grows x = by_cases (λ x. Grows (rule x))
+grows x = by_stmt (λ x. Grows (rule x))
     (λ place v r. same _ (one place (assigned v r)) (fold-roll-Stmt Rule rule_step (stmt.Set place v r)) (λ p n. omega arith))
     (λ place t xs ys hx hy. same _ (rule_step (stmt.If place t (map rule xs) (map rule ys))) (rule-if place t xs ys) (if_grows place t xs ys (list_by xs hx) (list_by ys hy)))
     (λ place t tried xs hx. same _ (rule_step (stmt.While place t tried (map rule xs))) (rule-while place t tried xs) (while_grows place t tried xs (list_by xs hx)))
@@ -46,4 +46,4 @@ grows x = by_cases (λ x. Grows (rule x))
     x
 
 pub list_grows : (ss : List Stmt) → Grows (rules ss)
-list_grows ss = list_by ss (each_all (λ x. Grows (rule x)) grows ss)
+list_grows ss = list_by ss (all_by (λ x. Grows (rule x)) grows ss)

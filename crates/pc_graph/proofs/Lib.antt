@@ -1,6 +1,5 @@
 pub mod Lists
 pub mod TestWays
-pub mod Cases
 pub mod Unrolled
 pub mod Tied
 pub mod Pieces

@@ -1,14 +1,14 @@
 -- What the edges of tests and assignments have is within the limits of edges.
-use Rattle.std.proofs.Common.{◌≡◌, ℕ, ◌+◌, ◌<◌, ◌≤◌, ℤ, pos, ◌≤ℤ◌, List, [], ◌∷◌, length, Bool, true, false, refl, arith, int_le}
+use Rattle.std.proofs.Common.{◌≡◌, ℕ, ◌+◌, ◌<◌, ◌≤◌, pos, List, [], ◌∷◌, length, Bool, true, false, refl, arith, int_le}
 use Rattle.std.specs.Prelude.{◌&&◌, Option, Some, None}
 use Rattle.std.specs.List.{AllByRecursion as Each}
-use Rattle.std.proofs.lemmas.Int.{ints}
 use Rattle.pc_grammar.specs.declared.tree.Bound.{Bound}
 use Rattle.pc_grammar.specs.declared.tree.Bound.TheVariants as bound
 use Rattle.pc_grammar.specs.declared.tree.Choice.{Choice}
 use Rattle.pc_rows.specs.Linear.{Linear, IsOver, in_range}
 use Rattle.pc_rows.specs.declared.row.TheConstants.{VARIABLES}
 use Rattle.pc_rows.proofs.Ranges.{is_in}
+use Rattle.pc_rows.proofs.Joining.{le_is}
 use Rattle.pc_syntax.specs.Forms.{form, is_affine, rows_all}
 use Rattle.pc_syntax.specs.Sane.{sane_test, sane_right, sane_expr, names_below, sane_choice, in_order}
 use Rattle.pc_syntax.specs.declared.tree.Right.{Right}
@@ -49,14 +49,11 @@ test_has (test.All cs) = way_of_has (is_lone cs) (rows_all cs)
 
 -- ---- assignments
 
-le_of_test : (a b : ℤ) → int_le a b ≡ true → a ≤ℤ b
-le_of_test a b h = grind (arith, ints)
-
 ends_fit : (lo hi : Bound) → in_order lo hi ≡ true → BoundsFit lo hi
 ends_fit (bound.At lo) (bound.At hi) h =
     let a = and_is (in_range lo) (in_range hi && int_le lo hi) h in
     let b = and_is (in_range hi) (int_le lo hi) a.1 in
-    record { low = is_in lo a.0; high = is_in hi b.0; ordered = le_of_test lo hi b.1 }
+    record { low = is_in lo a.0; high = is_in hi b.0; ordered = le_is lo hi b.1 }
 
 choice_fits : (o : Option Choice) → sane_choice o ≡ true → BoundsFit (low_end o) (high_end o)
 choice_fits None h = ends_fit (bound.At (pos 0)) (bound.At (pos 0)) refl

@@ -1,20 +1,8 @@
 -- What holds of each item of a list, and members.
-use Rattle.std.proofs.Common.{List, [], ◌∷◌, ◌++◌, refl, sym, subst, inl, inr}
+use Rattle.std.proofs.Common.{◌≡◌, ap, ◌∙◌, List, [], ◌∷◌, ◌++◌, refl, sym, subst, inl, inr}
 use Rattle.std.specs.Prelude.{◌⊎◌}
 use Rattle.std.specs.List.{AllByRecursion as Each}
 use Rattle.pc_graph.specs.Lists.{In}
-
-pub each_left : {A : Type 0} (P : A → Type 0) (xs ys : List A) → Each P (xs ++ ys) → Each P xs
-each_left P [] ys h = tt
-each_left P (x ∷ xs) ys h = (h.0, each_left P xs ys h.1)
-
-pub each_right : {A : Type 0} (P : A → Type 0) (xs ys : List A) → Each P (xs ++ ys) → Each P ys
-each_right P [] ys h = h
-each_right P (x ∷ xs) ys h = each_right P xs ys h.1
-
-pub each_join : {A : Type 0} (P : A → Type 0) (xs ys : List A) → Each P xs → Each P ys → Each P (xs ++ ys)
-each_join P [] ys h k = k
-each_join P (x ∷ xs) ys h k = (h.0, each_join P xs ys h.1 k)
 
 -- what holds of each item holds of a member
 pub each_at : {A : Type 0} (P : A → Type 0) (xs : List A) (x : A) → Each P xs → In x xs → P x
@@ -31,10 +19,6 @@ pub each_more : {A : Type 0} (P Q : A → Type 0) → ((x : A) → P x → Q x) 
 each_more P Q f [] h = tt
 each_more P Q f (x ∷ xs) h = (f x h.0, each_more P Q f xs h.1)
 
-pub each_all : {A : Type 0} (P : A → Type 0) → ((x : A) → P x) → (xs : List A) → Each P xs
-each_all P f [] = tt
-each_all P f (x ∷ xs) = (f x, each_all P f xs)
-
 -- each item of a list is in it
 pub each_in : {A : Type 0} (xs : List A) → Each (λ x. In x xs) xs
 each_in [] = tt
@@ -49,3 +33,7 @@ in_either x (y ∷ xs) ys (inr m) = by (in_either x xs ys m)
     by : In x xs ⊎ In x ys → In x (y ∷ xs) ⊎ In x ys
     by (inl n) = inl (inr n)
     by (inr n) = inr n
+
+-- two lists without items have none together
+pub none_joined : {A : Type 0} (xs ys : List A) → xs ≡ [] → ys ≡ [] → (xs ++ ys) ≡ []
+none_joined xs ys e f = ap (λ (z : List _). z ++ ys) e ∙ f

@@ -1,5 +1,5 @@
 -- The graph of a program without loops has no heads.
-use Rattle.std.proofs.Common.{◌≡◌, ℕ, ◌+◌, List, [], ◌∷◌, ◌++◌, refl, sym, ap, subst, ◌∙◌, map, false}
+use Rattle.std.proofs.Common.{◌≡◌, ℕ, ◌+◌, List, [], ◌∷◌, ◌++◌, refl, sym, subst, map, false}
 use Rattle.std.specs.List.{AllByRecursion as Each}
 use Rattle.pc_text.specs.declared.place.Place.{Place}
 use Rattle.pc_syntax.specs.Forms.{rows_all}
@@ -7,13 +7,14 @@ use Rattle.pc_syntax.specs.Loops.{whiles, whiles_step, whiles_of}
 use Rattle.pc_syntax.specs.declared.tree.Test.{Test as Condition}
 use Rattle.pc_syntax.specs.declared.tree.Stmt.{Stmt, fold-roll-Stmt}
 use Rattle.pc_syntax.specs.declared.tree.Stmt.TheOpen as stmt
+use Rattle.pc_syntax.proofs.Stmts.{by_stmt}
+use Rattle.pc_syntax.proofs.Trees.{all_by}
 use Rattle.pc_graph.specs.declared.draft.Loop.{Loop}
 use Rattle.pc_graph.specs.Arc.{Test, Check}
 use Rattle.pc_graph.specs.Lowering.{Rule, one, assigned, rule, rule_step, rules, made, points_from}
 use Rattle.pc_graph.specs.Straight.{LoopFreeGraphs}
-use Rattle.pc_graph.proofs.Cases.{by_cases}
-use Rattle.pc_graph.proofs.Lists.{each_all}
 use Rattle.pc_graph.proofs.Unrolled.{rule-if}
+use Rattle.pc_graph.proofs.Lists.{none_joined}
 
 -- what has no place of a loop makes no loop
 abbrev Free : List Place → Rule → Type 0
@@ -33,9 +34,6 @@ right_none : (ps qs : List Place) → (ps ++ qs) ≡ [] → qs ≡ []
 right_none [] qs e = e
 right_none (p ∷ ps) qs e = cc
 
-none_joined : (xs ys : List Loop) → xs ≡ [] → ys ≡ [] → (xs ++ ys) ≡ []
-none_joined xs ys e f = ap (λ (z : List Loop). z ++ ys) e ∙ f
-
 list_free : (ss : List Stmt) → Each FreeOne ss → Free (whiles_of ss) (rules ss)
 list_free [] all p n s = refl
 list_free (x ∷ ss) all p n s =
@@ -51,7 +49,7 @@ split_free place t xs ys hx hy p n s =
     none_joined a.loops b.loops (hx n (n + 1) (left_none (whiles_of xs) (whiles_of ys) s)) (hy a.next (a.next + 1) (right_none (whiles_of xs) (whiles_of ys) s))
 
 free : (x : Stmt) → FreeOne x
-free x = by_cases FreeOne
+free x = by_stmt FreeOne
     (λ place v r. free_by _ [] _ (one place (assigned v r)) (fold-roll-Stmt (List Place) whiles_step (stmt.Set place v r)) (fold-roll-Stmt Rule rule_step (stmt.Set place v r)) (λ p n s. refl))
     (λ place t xs ys hx hy. free_by _ (whiles_of xs ++ whiles_of ys) _ (rule_step (stmt.If place t (map rule xs) (map rule ys)))
     (fold-roll-Stmt (List Place) whiles_step (stmt.If place t xs ys)) (rule-if place t xs ys) (split_free place t xs ys (list_free xs hx) (list_free ys hy)))
@@ -66,5 +64,5 @@ no_heads p (place ∷ places) = (refl, no_heads (p + 1) places)
 
 pub loop_free_graphs : LoopFreeGraphs
 loop_free_graphs p s =
-    let none : (made p).loops ≡ [] = list_free p.body (each_all FreeOne free p.body) 1 2 s in
+    let none : (made p).loops ≡ [] = list_free p.body (all_by FreeOne free p.body) 1 2 s in
     subst (λ (z : List Loop). Each (λ point. point.head ≡ false) (points_from z 0 (p.place ∷ p.place ∷ (made p).places))) (sym none) (no_heads 0 (p.place ∷ p.place ∷ (made p).places))

@@ -2,7 +2,7 @@
 use Rattle.std.proofs.Common.{◌≡◌, ℕ, ◌*◌, ◌≤◌, List, [], ◌∷◌, ◌++◌, length, Bool, true, refl, sym, ap, ◌∙◌, arith, length-append}
 use Rattle.std.specs.Prelude.{◌&&◌, not, nat_le}
 use Rattle.std.specs.List.{list_all}
-use Rattle.std.proofs.lemmas.Bool.Decides.{nat_tests}
+use Rattle.std.proofs.lemmas.Bool.{leb-true}
 use Rattle.pc_text.specs.declared.place.Place.{Place}
 use Rattle.pc_grammar.specs.declared.tree.Op.{Op}
 use Rattle.pc_grammar.specs.declared.tree.Op.TheVariants as op
@@ -68,13 +68,10 @@ all_have n (c ∷ cs) h =
     let a = and_is (not (is_unequal c.op) && sane_compare n c) (list_all (λ c. not (is_unequal c.op) && sane_compare n c) cs) h in
     and_of (has_sane_rows c) (list_all has_sane_rows cs) (has_sane n c (and_is (not (is_unequal c.op)) (sane_compare n c) a.0).1) (all_have n cs a.1)
 
-pub le_of : (a b : ℕ) → nat_le a b ≡ true → a ≤ b
-le_of a b h = grind (arith, nat_tests)
-
 pub each_ready : (n : ℕ) (cs : List Compare) → sane_each n cs ≡ true → IsReady cs
 each_ready n cs h =
     let a = and_is (nat_le (length cs) COMPARISONS) (list_all (λ c. not (is_unequal c.op) && sane_compare n c) cs) h in
-    (le_of (length cs) COMPARISONS a.0, all_have n cs a.1)
+    (leb-true (length cs) COMPARISONS a.0, all_have n cs a.1)
 
 pub all_ready : (n : ℕ) (cs : List Compare) → sane_all n cs ≡ true → IsReady cs
 all_ready n [] h = absurd (cc)

@@ -11,6 +11,7 @@ use Rattle.pc_rows.specs.Linear.{value, MeetsAll}
 use Rattle.pc_syntax.specs.Forms.{form, rows_all}
 use Rattle.pc_syntax.specs.Machine.{Going, Violated, Blocked, step, end_of, clamped, drawn}
 use Rattle.pc_rows.specs.Linear.{in_range}
+use Rattle.pc_rows.proofs.Joining.{each_left, each_right, each_join}
 use Rattle.pc_syntax.specs.Forms.{is_affine}
 use Rattle.pc_syntax.specs.Sane.{sane_stmt, sane_step, sane_stmts, sane_test, sane_each, sane_all, sane_right, sane_expr, sane_choice, in_order, names_below}
 use Rattle.pc_syntax.specs.Values.{State, value_of, all_hold, chosen}
@@ -28,7 +29,7 @@ use Rattle.pc_graph.specs.Walk.{Pass}
 use Rattle.pc_graph.specs.Ways.{ways}
 use Rattle.pc_syntax.proofs.FormLemmas.{forms_are_right}
 use Rattle.pc_syntax.proofs.Results.{and_is}
-use Rattle.pc_graph.proofs.Lists.{each_left, each_right, each_join, each_more}
+use Rattle.pc_graph.proofs.Lists.{each_more}
 use Rattle.pc_graph.proofs.TestWays.{ways_sound, ways_complete, holds_meets, meets_holds}
 use Rattle.pc_graph.proofs.Tied.{Holds, ArcOk, Fired, Simulates, joins, Tied}
 use Rattle.pc_graph.proofs.Unrolled.{step-set, step-if, step-while, step-assert, step-assume, rule-if, rule-while, sane-if, sane-while, rests-if, rests-while, rests-set, rests-assert, rests-assume}

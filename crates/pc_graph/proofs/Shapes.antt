@@ -1,11 +1,13 @@
 -- What the rules make: as many points as numbers, no more of them than edges, and edges that lead up or back to a head.
 use Rattle.std.proofs.Common.{◌≡◌, ℕ, ◌+◌, ◌<◌, ◌≤◌, List, [], ◌∷◌, ◌++◌, length, Bool, true, false, refl, sym, subst, arith, map, inl, inr, length-append}
-use Rattle.std.specs.Prelude.{◌⊎◌, ◌&&◌, ◌||◌, ◌==◌, nat_lt}
+use Rattle.std.specs.Prelude.{◌⊎◌, ◌&&◌, ◌==◌, nat_lt}
 use Rattle.std.specs.List.{AllByRecursion as Each, list_any}
 use Rattle.std.proofs.lemmas.Bool.Decides.{nat_tests}
+use Rattle.std.proofs.lemmas.Bool.{or_left, or_right, ltb-true}
 use Rattle.pc_text.specs.declared.place.Place.{Place}
 use Rattle.pc_rows.specs.Linear.{Linear, IsOver}
 use Rattle.pc_rows.specs.declared.row.TheConstants.{VARIABLES}
+use Rattle.pc_rows.proofs.Joining.{each_left, each_right, each_join}
 use Rattle.pc_syntax.specs.Forms.{rows_all}
 use Rattle.pc_syntax.specs.Sane.{sane_stmt, sane_step, sane_stmts, sane_test, sane_each, sane_all, sane_right}
 use Rattle.pc_syntax.specs.declared.tree.Compare.{Compare}
@@ -13,6 +15,8 @@ use Rattle.pc_syntax.specs.declared.tree.Test.{Test as Condition}
 use Rattle.pc_syntax.specs.declared.tree.Stmt.{Stmt, fold-roll-Stmt}
 use Rattle.pc_syntax.specs.declared.tree.Stmt.TheOpen as stmt
 use Rattle.pc_syntax.proofs.Results.{and_is}
+use Rattle.pc_syntax.proofs.Stmts.{by_stmt}
+use Rattle.pc_syntax.proofs.Trees.{all_by}
 use Rattle.pc_graph.specs.declared.draft.Loop.{Loop}
 use Rattle.pc_graph.specs.declared.what.TheConstants.{TEST_ROWS}
 use Rattle.pc_graph.specs.Arc.{What, Test, Check, Arc, arc, IsFit}
@@ -20,12 +24,11 @@ use Rattle.pc_graph.specs.Lists.{In}
 use Rattle.pc_graph.specs.Lowering.{Piece, Rule, one, tests, all_alike, join_edges, assigned, rule, rule_step, rules}
 use Rattle.pc_graph.specs.Shape.{WhatIsOver}
 use Rattle.pc_graph.specs.Ways.{ways}
-use Rattle.pc_graph.proofs.Cases.{by_cases}
-use Rattle.pc_graph.proofs.Lists.{each_left, each_right, each_join, each_all}
 use Rattle.pc_graph.proofs.Limits.{ways_few, test_has, assigned_fits, right_over}
 use Rattle.pc_graph.proofs.Ready.{ready_few, all_ready}
-use Rattle.pc_graph.proofs.Variables.{below, each_over, all_over, ways_over}
+use Rattle.pc_graph.proofs.Variables.{each_over, all_over, ways_over}
 use Rattle.pc_graph.proofs.Unrolled.{rule-if, rule-while, sane-if, sane-while}
+use Rattle.pc_graph.proofs.Counts.{tests-length}
 
 -- the number is the head of one of the loops
 abbrev pub HeadIn : List Loop → ℕ → Type 0
@@ -56,14 +59,6 @@ pub record Shaped (v n : ℕ) (a : Piece) : Type 0 where
   pub loops : Each (IsLoop v) a.loops
   pub edges : (m : ℕ) (loops : List Loop) → a.next ≤ m → Each (λ l. In l loops) a.loops → Each (IsUp v m loops) a.edges
 
-or_left : (a b : Bool) → a ≡ true → (a || b) ≡ true
-or_left true b h = refl
-or_left false b h = cc
-
-or_right : (a b : Bool) → b ≡ true → (a || b) ≡ true
-or_right true b h = refl
-or_right false b h = h
-
 same_number : (n : ℕ) → (n == n) ≡ true
 same_number n = grind (arith, nat_tests)
 
@@ -82,10 +77,6 @@ module _ (v : ℕ) (few : v ≤ VARIABLES) where
 
   join_up : (m : ℕ) (loops : List Loop) (p q : ℕ) → 0 < p → p < q → q < m → IsUp v m loops (arc p q (Test []))
   join_up m loops p q a h k = record { away = a; leaves = omega arith; reaches = k; rises = inl h; over = tt; fit = omega arith }
-
-  tests-length : (p q : ℕ) (ws : List (List Linear)) → length (tests p q ws) ≡ length ws
-  tests-length p q [] = refl
-  tests-length p q (w ∷ ws) = let h = tests-length p q ws in omega arith
 
   alike-length : (b : Bool) (ws : List (List Linear)) → length (all_alike b ws) ≡ length ws
   alike-length b [] = refl
@@ -243,11 +234,11 @@ module _ (v : ℕ) (few : v ≤ VARIABLES) where
       }
 
   shaped : (x : Stmt) → ShapedOne x
-  shaped x = by_cases ShapedOne
+  shaped x = by_stmt ShapedOne
       (λ place u r. shaped_by _ (nat_lt u v && sane_right v r) _ (one place (assigned u r)) (fold-roll-Stmt Bool (sane_step v) (stmt.Set place u r)) (fold-roll-Stmt Rule rule_step (stmt.Set place u r))
       (λ p n s pos_p h.
       let ok = and_is (nat_lt u v) (sane_right v r) s in
-      one_shaped place (assigned u r) (below u v ok.0, right_over v r ok.1) (assigned_fits v u r few (below u v ok.0) ok.1) p n pos_p h))
+      one_shaped place (assigned u r) (ltb-true u v ok.0, right_over v r ok.1) (assigned_fits v u r few (ltb-true u v ok.0) ok.1) p n pos_p h))
       (λ place t xs ys hx hy. shaped_by _ (sane_test v t && (sane_stmts v xs && sane_stmts v ys)) _ (rule_step (stmt.If place t (map rule xs) (map rule ys)))
       (sane-if v place t xs ys) (rule-if place t xs ys) (split_shaped place t xs ys (list_shaped xs hx) (list_shaped ys hy)))
       (λ place t tried xs hx. shaped_by _ (sane_test v t && (sane_each v tried && sane_stmts v xs)) _ (rule_step (stmt.While place t tried (map rule xs)))
@@ -259,4 +250,4 @@ module _ (v : ℕ) (few : v ≤ VARIABLES) where
       x
 
   pub all_shaped : (ss : List Stmt) → ShapedBy (sane_stmts v ss) (rules ss)
-  all_shaped ss = list_shaped ss (each_all ShapedOne shaped ss)
+  all_shaped ss = list_shaped ss (all_by ShapedOne shaped ss)

@@ -1,8 +1,9 @@
 -- The graph of a program without loops, assumptions and tests but `*`: its edges lead up, and all but assertions pass every state.
-use Rattle.std.proofs.Common.{◌≡◌, ℕ, ◌+◌, ◌<◌, List, [], ◌∷◌, ◌++◌, length, Bool, true, refl, sym, ap, subst, ◌∙◌, arith, map, inl, inr}
+use Rattle.std.proofs.Common.{◌≡◌, ℕ, ◌+◌, ◌<◌, List, [], ◌∷◌, length, Bool, true, refl, sym, subst, arith, map, inl, inr}
 use Rattle.std.specs.Prelude.{◌⊎◌, ◌&&◌}
 use Rattle.std.specs.List.{AllByRecursion as Each}
 use Rattle.pc_text.specs.declared.place.Place.{Place}
+use Rattle.pc_rows.proofs.Joining.{each_join}
 use Rattle.pc_syntax.specs.Forms.{rows_all}
 use Rattle.pc_syntax.specs.Values.{State}
 use Rattle.pc_syntax.specs.declared.tree.Test.{Test as Condition}
@@ -10,6 +11,8 @@ use Rattle.pc_syntax.specs.declared.tree.Test.TheVariants as test
 use Rattle.pc_syntax.specs.declared.tree.Stmt.{Stmt, fold-roll-Stmt}
 use Rattle.pc_syntax.specs.declared.tree.Stmt.TheOpen as stmt
 use Rattle.pc_syntax.proofs.Results.{and_is}
+use Rattle.pc_syntax.proofs.Stmts.{by_stmt}
+use Rattle.pc_syntax.proofs.Trees.{all_by}
 use Rattle.pc_graph.specs.declared.draft.Loop.{Loop}
 use Rattle.pc_graph.specs.Arc.{What, Enter, Test, Set, Check, Arc}
 use Rattle.pc_graph.specs.Carry.{HasVariable}
@@ -18,11 +21,10 @@ use Rattle.pc_graph.specs.Lists.{In}
 use Rattle.pc_graph.specs.Lowering.{Piece, Rule, one, join_edges, assigned, rule, rule_step, rules, made, graph}
 use Rattle.pc_graph.specs.Shape.{WhatIsOver}
 use Rattle.pc_graph.specs.Straight.{is_any, straight_step, is_straight, are_straight, StraightGraphs}
-use Rattle.pc_graph.proofs.Cases.{by_cases}
 use Rattle.pc_graph.proofs.Graphs.{keeps, made_shape, points-length}
-use Rattle.pc_graph.proofs.Lists.{each_join, each_all}
 use Rattle.pc_graph.proofs.Shapes.{HeadIn, IsUp}
 use Rattle.pc_graph.proofs.Unrolled.{rule-if}
+use Rattle.pc_graph.proofs.Lists.{none_joined}
 
 -- no loop, and no edge with rows to pass
 record Plain (a : Piece) : Type 0 where
@@ -37,9 +39,6 @@ PlainOne x = PlainBy (is_straight x) (rule x)
 
 plain_by : (b c : Bool) (l m : Rule) → b ≡ c → l ≡ m → PlainBy c m → PlainBy b l
 plain_by b c l m eb el h = subst (λ b. PlainBy b l) (sym eb) (subst (λ (l : Rule). PlainBy c l) (sym el) h)
-
-none_joined : (xs ys : List Loop) → xs ≡ [] → ys ≡ [] → (xs ++ ys) ≡ []
-none_joined xs ys e f = ap (λ (z : List Loop). z ++ ys) e ∙ f
 
 list_plain : (ss : List Stmt) → Each PlainOne ss → PlainBy (are_straight ss) (rules ss)
 list_plain [] all p n s = record { loops = refl; free = tt }
@@ -66,7 +65,7 @@ split_plain place test.Any xs ys hx hy p n s =
     }
 
 plain : (x : Stmt) → PlainOne x
-plain x = by_cases PlainOne
+plain x = by_stmt PlainOne
     (λ place v r. plain_by _ true _ (one place (assigned v r)) (fold-roll-Stmt Bool straight_step (stmt.Set place v r)) (fold-roll-Stmt Rule rule_step (stmt.Set place v r))
     (λ p n s. record { loops = refl; free = (tt, tt) }))
     (λ place t xs ys hx hy. plain_by _ (is_any t && (are_straight xs && are_straight ys)) _ (rule_step (stmt.If place t (map rule xs) (map rule ys)))
@@ -78,10 +77,10 @@ plain x = by_cases PlainOne
     x
 
 all_plain : (ss : List Stmt) → PlainBy (are_straight ss) (rules ss)
-all_plain ss = list_plain ss (each_all PlainOne plain ss)
+all_plain ss = list_plain ss (all_by PlainOne plain ss)
 
 -- a state with a value for each variable has one for that which an edge assigns
-has_variable : (v : ℕ) (w : What) (s : State) → WhatIsOver v w → length s ≡ v → HasVariable w s
+pub has_variable : (v : ℕ) (w : What) (s : State) → WhatIsOver v w → length s ≡ v → HasVariable w s
 has_variable v (Enter params) s over long = tt
 has_variable v (Test rows) s over long = tt
 has_variable v (Set x form lo hi) s over long = let lt = over.0 in omega arith

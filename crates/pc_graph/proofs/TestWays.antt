@@ -1,11 +1,11 @@
 -- The edges of a test: where it holds, and where it fails.
-use Rattle.std.proofs.Common.{◌≡◌, ℕ, ℤ, pos, List, [], ◌∷◌, ◌++◌, length, Bool, true, false, refl, sym, ap, ◌∙◌, arith, inl, inr}
+use Rattle.std.proofs.Common.{◌≡◌, ℕ, ℤ, pos, List, [], ◌∷◌, length, Bool, true, false, refl, sym, ap, ◌∙◌, inl, inr}
 use Rattle.std.specs.Prelude.{◌⊎◌, ◌&&◌, not, nat_le}
 use Rattle.std.specs.Ordering.{int_eq}
 use Rattle.std.specs.List.{AllByRecursion as Each, list_all}
-use Rattle.std.proofs.lemmas.Int.{ints, by_lt_z}
-use Rattle.pc_rows.specs.Linear.{Linear, value, Meets, MeetsAll, negation}
-use Rattle.pc_rows.proofs.Values.{value-negation}
+use Rattle.std.proofs.Math.Bool.{and-true}
+use Rattle.std.proofs.lemmas.Bool.{false_from_ne_true}
+use Rattle.pc_rows.specs.Linear.{Linear, Meets, MeetsAll, negation}
 use Rattle.pc_grammar.specs.declared.limits.TheConstants.{COMPARISONS}
 use Rattle.pc_syntax.specs.Forms.{is_unequal, is_affine, has_rows, is_plain, row_fits, rows_of, rows_all}
 use Rattle.pc_syntax.specs.Sane.{sane_expr, names_below, sane_compare, sane_each, sane_all, sane_test}
@@ -14,30 +14,13 @@ use Rattle.pc_syntax.specs.declared.tree.Compare.{Compare}
 use Rattle.pc_syntax.specs.declared.tree.Test.{Test}
 use Rattle.pc_syntax.specs.declared.tree.Test.TheVariants as test
 use Rattle.pc_syntax.proofs.Results.{and_is, and_of}
-use Rattle.pc_syntax.proofs.RowLemmas.{conjunctions_are_rows, unequals_are_rows}
+use Rattle.pc_syntax.proofs.RowLemmas.{conjunctions_are_rows, unequals_are_rows, meets_left, meets_join, met_or_not, not_both}
+use Rattle.pc_syntax.proofs.Trees.{all_by}
 use Rattle.pc_graph.specs.Lists.{AnyOf}
 use Rattle.pc_graph.specs.Ways.{is_lone, apart, ways_of, ways}
-use Rattle.pc_graph.proofs.Lists.{each_more, each_all}
+use Rattle.pc_graph.proofs.Lists.{each_more}
 
 -- ---- rows
-
-pub meets_left : (s : State) (as' bs : List Linear) → MeetsAll s (as' ++ bs) → MeetsAll s as'
-meets_left s [] bs h = tt
-meets_left s (a ∷ as') bs h = (h.0, meets_left s as' bs h.1)
-
-pub meets_right : (s : State) (as' bs : List Linear) → MeetsAll s (as' ++ bs) → MeetsAll s bs
-meets_right s [] bs h = h
-meets_right s (a ∷ as') bs h = meets_right s as' bs h.1
-
-pub meets_join : (s : State) (as' bs : List Linear) → MeetsAll s as' → MeetsAll s bs → MeetsAll s (as' ++ bs)
-meets_join s [] bs h k = k
-meets_join s (a ∷ as') bs h k = (h.0, meets_join s as' bs h.1 k)
-
-met_or_not : (r : Linear) (s : State) → Meets s r ⊎ Meets s (negation r)
-met_or_not r s = by_lt_z (value r s) (pos 0) (λ h. inr (let e = value-negation r s in omega (arith, ints))) (λ h. inl h)
-
-not_both : (r : Linear) (s : State) → Meets s r → Meets s (negation r) → ⊥
-not_both r s h k = let e = value-negation r s in omega (arith, ints)
 
 pub all_or_apart : (rs : List Linear) (s : State) → MeetsAll s rs ⊎ AnyOf (MeetsAll s) (apart rs)
 all_or_apart [] s = inl tt
@@ -100,25 +83,17 @@ test_plain n [] u l = refl
 test_plain n (c ∷ []) u l = and_of (is_plain c) true (and_of (not (is_unequal c.op)) (has_rows c) (ap not l) (rows_found n c u)) refl
 test_plain n (c ∷ d ∷ cs) u l = each_plain n (c ∷ d ∷ cs) u
 
-and_true : (b : Bool) → (b && true) ≡ b
-and_true true = refl
-and_true false = refl
-
-not_true_is : (b : Bool) → (b ≡ true → ⊥) → b ≡ false
-not_true_is true h = absurd (h refl)
-not_true_is false h = refl
-
 -- a lone `!=` fails exactly where its rows are met
 lone_meets : (n : ℕ) (cs : List Compare) (s : State) → sane_test n (test.All cs) ≡ true → is_lone cs ≡ true → all_hold cs s ≡ false → MeetsAll s (rows_all cs)
 lone_meets n [] s u l h = absurd (cc)
 lone_meets n (c ∷ []) s u l h =
-    meets_join s (rows_of c) [] ((unequals_are_rows c s (rows_found n c u) l).fails_where.0 (λ t. let e = sym (and_true (holds c s)) ∙ h in absurd (cc))) tt
+    meets_join s (rows_of c) [] ((unequals_are_rows c s (rows_found n c u) l).fails_where.0 (λ t. let e = sym (and-true (holds c s)) ∙ h in absurd (cc))) tt
 lone_meets n (c ∷ d ∷ cs) s u l h = absurd (cc)
 
 meets_lone : (n : ℕ) (cs : List Compare) (s : State) → sane_test n (test.All cs) ≡ true → is_lone cs ≡ true → MeetsAll s (rows_all cs) → all_hold cs s ≡ false
 meets_lone n [] s u l h = absurd (cc)
 meets_lone n (c ∷ []) s u l h =
-    and_true (holds c s) ∙ not_true_is (holds c s) ((unequals_are_rows c s (rows_found n c u) l).fails_where.1 (meets_left s (rows_of c) [] h))
+    and-true (holds c s) ∙ false_from_ne_true (holds c s) ((unequals_are_rows c s (rows_found n c u) l).fails_where.1 (meets_left s (rows_of c) [] h))
 meets_lone n (c ∷ d ∷ cs) s u l h = absurd (cc)
 
 -- ---- the ways of a test, where its rows are met exactly where its answer is `not lone`
@@ -142,12 +117,12 @@ ways_sound_by : (h lone b : Bool) (rs : List Linear) (s : State) → (h ≡ not 
     Each (λ ws. MeetsAll s ws → h ≡ b) (ways_of lone rs b)
 ways_sound_by h true false rs s to fro = (fro, tt)
 ways_sound_by h false true rs s to fro = (fro, tt)
-ways_sound_by true true true rs s to fro = each_all (λ ws. MeetsAll s ws → true ≡ true) (λ ws m. refl) (apart rs)
+ways_sound_by true true true rs s to fro = all_by (λ ws. MeetsAll s ws → true ≡ true) (λ ws m. refl) (apart rs)
 ways_sound_by false true true rs s to fro =
     each_more (λ ws. MeetsAll s ws → ⊥) (λ ws. MeetsAll s ws → false ≡ true) (λ ws f m. absurd (f m)) (apart rs) (apart_not_all rs s (to refl))
 ways_sound_by true false false rs s to fro =
     each_more (λ ws. MeetsAll s ws → ⊥) (λ ws. MeetsAll s ws → true ≡ false) (λ ws f m. absurd (f m)) (apart rs) (apart_not_all rs s (to refl))
-ways_sound_by false false false rs s to fro = each_all (λ ws. MeetsAll s ws → false ≡ false) (λ ws m. refl) (apart rs)
+ways_sound_by false false false rs s to fro = all_by (λ ws. MeetsAll s ws → false ≡ false) (λ ws m. refl) (apart rs)
 
 rows_to : (n : ℕ) (cs : List Compare) (s : State) (lone : Bool) → sane_test n (test.All cs) ≡ true → is_lone cs ≡ lone →
     all_hold cs s ≡ not lone → MeetsAll s (rows_all cs)

@@ -4,18 +4,20 @@ use Rattle.std.specs.Prelude.{◌⊎◌}
 use Rattle.std.specs.List.{AllByRecursion as Each}
 use Rattle.pc_text.specs.declared.place.Place.{Place}
 use Rattle.pc_rows.specs.Linear.{Linear}
+use Rattle.pc_rows.proofs.Joining.{each_join}
 use Rattle.pc_syntax.specs.Forms.{rows_all}
 use Rattle.pc_syntax.specs.declared.tree.Compare.{Compare}
 use Rattle.pc_syntax.specs.declared.tree.Test.{Test as Condition}
 use Rattle.pc_syntax.specs.declared.tree.Stmt.{Stmt, fold-roll-Stmt}
 use Rattle.pc_syntax.specs.declared.tree.Stmt.TheOpen as stmt
+use Rattle.pc_syntax.proofs.Stmts.{by_stmt}
+use Rattle.pc_syntax.proofs.Trees.{all_by}
 use Rattle.pc_graph.specs.Arc.{What, Enter, Test, Check, Arc, arc}
 use Rattle.pc_graph.specs.Lowering.{Piece, Rule, one, tests, join_edges, assigned, rule, rule_step, rules, made}
 use Rattle.pc_graph.specs.Shape.{TurnsApart, NoSharedHead}
 use Rattle.pc_graph.specs.Straight.{LoopsHaveTheirHeads}
 use Rattle.pc_graph.specs.Ways.{ways}
-use Rattle.pc_graph.proofs.Cases.{by_cases}
-use Rattle.pc_graph.proofs.Lists.{each_join, each_more, each_all}
+use Rattle.pc_graph.proofs.Lists.{each_more}
 use Rattle.pc_graph.proofs.Unrolled.{rule-if, rule-while}
 
 -- an edge that leads up, or back to a point from lo on, below hi
@@ -56,7 +58,7 @@ ups lo hi [] h = record { back = tt; own = tt }
 ups lo hi (e ∷ es) h =
     let r = ups lo hi es h.1 in
     let up = h.0 in
-    record { back = (inl up, r.back); own = (each_all (TurnsApart e) (λ f b c. absurd (omega arith)) es, r.own) }
+    record { back = (inl up, r.back); own = (all_by (TurnsApart e) (λ f b c. absurd (omega arith)) es, r.own) }
 
 -- edges, and then one that leads back to a lesser point, and edges that lead up
 turns_back : (lo mid hi : ℕ) (es fs : List Arc) (e : Arc) → e.to ≡ lo → lo < mid → mid ≤ hi → Turns mid hi es → Each (λ f. f.from < f.to) fs → Turns lo hi (es ++ (e ∷ fs))
@@ -157,7 +159,7 @@ loop_turned place t tried xs hx p n h =
     }
 
 turned : (x : Stmt) → TurnedOne x
-turned x = by_cases TurnedOne
+turned x = by_stmt TurnedOne
     (λ place v r. turned_by _ (one place (assigned v r)) (fold-roll-Stmt Rule rule_step (stmt.Set place v r)) (one_turned place (assigned v r)))
     (λ place t xs ys hx hy. turned_by _ (rule_step (stmt.If place t (map rule xs) (map rule ys))) (rule-if place t xs ys) (split_turned place t xs ys (list_turned xs hx) (list_turned ys hy)))
     (λ place t tried xs hx. turned_by _ (rule_step (stmt.While place t tried (map rule xs))) (rule-while place t tried xs) (loop_turned place t tried xs (list_turned xs hx)))
@@ -167,5 +169,5 @@ turned x = by_cases TurnedOne
 
 pub loops_have_their_heads : LoopsHaveTheirHeads
 loops_have_their_heads p =
-    let h = list_turned p.body (each_all TurnedOne turned p.body) 1 2 (omega arith) in
-    (each_all (TurnsApart (arc 0 1 (Enter p.names.params))) (λ f b c. absurd (omega arith)) (made p).edges, h.turns.own)
+    let h = list_turned p.body (all_by TurnedOne turned p.body) 1 2 (omega arith) in
+    (all_by (TurnsApart (arc 0 1 (Enter p.names.params))) (λ f b c. absurd (omega arith)) (made p).edges, h.turns.own)

@@ -1,11 +1,11 @@
 -- The rows of a program are over its variables.
-use Rattle.std.proofs.Common.{◌≡◌, ℕ, ◌+◌, ◌<◌, ℤ, pos, negsuc, ◌*ℤ◌, refl, ap, ◌∙◌, arith, zero, suc, List, [], ◌∷◌, length, get_or, replicate, Bool, true, false, cond, Result, Ok, Err}
-use Rattle.std.specs.Prelude.{◌&&◌, ◌==◌, not, nat_le, nat_lt, IfOk}
+use Rattle.std.proofs.Common.{◌≡◌, ℕ, ◌+◌, ◌<◌, ℤ, pos, negsuc, ◌*ℤ◌, ap, ◌∙◌, arith, List, [], ◌∷◌, length, replicate, Bool, true, false, cond, Result, Ok, Err}
+use Rattle.std.specs.Prelude.{◌&&◌, ◌==◌, not, nat_le, IfOk}
 use Rattle.std.specs.List.{AllByRecursion as Each, list_all}
-use Rattle.std.proofs.lemmas.Bool.Decides.{nat_tests}
 use Rattle.std.proofs.lemmas.Int.{ints}
 use Rattle.std.proofs.lemmas.List.{get_or-set_other}
 use Rattle.std.proofs.Math.IntN.{*ℤ-zero}
+use Rattle.std.proofs.lemmas.Bool.{ltb-true}
 use Rattle.pc_text.specs.declared.place.Place.{Place}
 use Rattle.pc_grammar.specs.declared.limits.TheConstants.{COMPARISONS}
 use Rattle.pc_grammar.specs.declared.tree.Op.{Op}
@@ -14,6 +14,7 @@ use Rattle.pc_rows.specs.Linear.{Linear, IsOver, of_constant, sum_of, scaled_by,
 use Rattle.pc_rows.specs.declared.row.TheConstants.{VARIABLES}
 use Rattle.pc_rows.proofs.Algebra.{get_or-add_lists, get_or-scale_list}
 use Rattle.pc_rows.proofs.Only.{difference_is_over, negation_is_over}
+use Rattle.pc_rows.proofs.Joining.{each_join}
 use Rattle.pc_syntax.specs.Forms.{bind, variable, product, form_of, form, ok_or, rows_by, rows_of, rows_all, row_fits, is_affine, is_unequal}
 use Rattle.pc_syntax.specs.Sane.{names_below, sane_expr, sane_compare, sane_each, sane_all, sane_test}
 use Rattle.pc_syntax.specs.declared.normal.AffineFault.{AffineFault}
@@ -24,23 +25,18 @@ use Rattle.pc_syntax.specs.declared.tree.Test.{Test as Condition}
 use Rattle.pc_syntax.specs.declared.tree.Test.TheVariants as test
 use Rattle.pc_syntax.proofs.Exprs.{by_cases}
 use Rattle.pc_syntax.proofs.Results.{and_is, bind_keeps, if_keeps}
+use Rattle.pc_syntax.proofs.FormLemmas.{get_or-zeros}
 use Rattle.pc_graph.specs.declared.draft.Loop.{Loop}
 use Rattle.pc_graph.specs.Lowering.{tried_at, points_from}
 use Rattle.pc_graph.specs.Ways.{is_lone, apart, ways_of, ways}
-use Rattle.pc_graph.proofs.Lists.{each_join}
 
 -- ---- rows
 
-zeros_at : (n v : ℕ) → get_or (replicate n (pos 0)) v (pos 0) ≡ pos 0
-zeros_at zero v = refl
-zeros_at (suc n) zero = refl
-zeros_at (suc n) (suc v) = zeros_at n v
-
 number_is_over : (n : ℕ) (c : ℤ) → IsOver n (of_constant c)
-number_is_over n c v h = zeros_at VARIABLES v
+number_is_over n c v h = get_or-zeros VARIABLES v
 
 variable_is_over : (n x : ℕ) → x < n → IsOver n (variable x)
-variable_is_over n x lt v h = get_or-set_other (replicate VARIABLES (pos 0)) x v (pos 1) (pos 0) (λ e. absurd (omega arith)) ∙ zeros_at VARIABLES v
+variable_is_over n x lt v h = get_or-set_other (replicate VARIABLES (pos 0)) x v (pos 1) (pos 0) (λ e. absurd (omega arith)) ∙ get_or-zeros VARIABLES v
 
 sum_is_over : (n : ℕ) (a b : Linear) → IsOver n a → IsOver n b → IsOver n (sum_of a b)
 sum_is_over n a b f g v h = get_or-add_lists a.coefficients b.coefficients v ∙ (let e = f v h in let k = g v h in omega (arith, ints))
@@ -77,14 +73,11 @@ both_claim n f step below below' r q h k e =
     let p = and_is below below' e in
     bind_keeps (IsOver n) (IsOver n) r (λ a. bind q (λ b. f a b)) (λ a x. bind_keeps (IsOver n) (IsOver n) q (λ b. f a b) (λ b y. step a b x y) (k p.1)) (h p.0)
 
-pub below : (a b : ℕ) → nat_lt a b ≡ true → a < b
-below a b h = grind (arith, nat_tests)
-
 claims : (n : ℕ) (e : Expr) → Claim n (names_below n e) (form_of e)
 unfolding Claim
 claims n e = by_cases (λ e. Claim n (names_below n e) (form_of e))
     (λ c. simp fold-roll-Expr (λ h. number_is_over n c))
-    (λ x. simp fold-roll-Expr (λ h. variable_is_over n x (below x n h)))
+    (λ x. simp fold-roll-Expr (λ h. variable_is_over n x (ltb-true x n h)))
     (λ a p h. simp fold-roll-Expr (each_claim n (λ x. fits (Past p) (scaled_by (negsuc 0) x)) (λ a x. fits_over n p (scaled_by (negsuc 0) a) (multiple_is_over n (negsuc 0) a x)) _ _ h))
     (λ a b p h k. simp fold-roll-Expr (both_claim n (λ x y. fits (Past p) (sum_of x y)) (λ a b x y. fits_over n p (sum_of a b) (sum_is_over n a b x y)) _ _ _ _ h k))
     (λ a b p h k. simp fold-roll-Expr (both_claim n (λ x y. fits (Past p) (difference_of x y)) (λ a b x y. fits_over n p (difference_of a b) (difference_is_over n a b x y)) _ _ _ _ h k))

@@ -2,6 +2,7 @@
 use Rattle.std.proofs.Common.{◌≡◌, ◌∙◌, ℕ, zero, suc, ◌+◌, ◌<◌, ◌≤◌, arith, List, [], ◌∷◌, ◌++◌, drop, length, sym, refl, ap, subst, cond, Bool, append-nil, append_assoc}
 use Rattle.std.specs.Prelude.{slice_get, IfSome}
 use Rattle.std.proofs.lemmas.List.{drop_all}
+use Rattle.std.proofs.Math.Numerals.{suc-eq-add-one}
 use Rattle.pc_rows.specs.Linear.{Linear}
 use Rattle.pc_rows.specs.declared.rows.TheConstants.{ROWS}
 use Rattle.pc_graph.specs.declared.point.PointInfo.{PointInfo}
@@ -25,9 +26,6 @@ none_from [] p lt = absurd (omega arith)
 none_from (point ∷ points) zero lt = refl
 none_from (point ∷ points) (suc p) lt = none_from points p (omega arith)
 
-next : (p : ℕ) → suc p ≡ p + 1
-next p = omega arith
-
 -- the rows of the points so far, and those of the points that are left, are all
 pub record HeadsSoFar (points : List PointInfo) (heads : List (List Linear)) (p : ℕ) (a : List (List Linear)) : Type 0 where
   pub rest : a ++ at_heads (drop p points) (drop p heads) ≡ at_heads points heads
@@ -40,7 +38,7 @@ heads_next points heads a new p rows lt e is most added h =
     let whole =
     append_assoc a (rows ∷ []) more ∙ ap (λ (z : List Linear). a ++ z ∷ more) is ∙ ap (λ (z : List (List Linear)). a ++ z) (sym (heads_from points heads p lt e)) ∙ h.rest in
     let few = each_join (λ rows. length rows ≤ ROWS) a (rows ∷ []) h.few (most, tt) in
-    subst (λ (n : ℕ). HeadsSoFar points heads n new) (next p) (subst (HeadsSoFar points heads (suc p)) (sym added) (record { rest = whole; few = few }))
+    subst (λ (n : ℕ). HeadsSoFar points heads n new) (suc-eq-add-one p) (subst (HeadsSoFar points heads (suc p)) (sym added) (record { rest = whole; few = few }))
 
 pub heads_none : (points : List PointInfo) (heads : List (List Linear)) → HeadsSoFar points heads 0 []
 heads_none points heads = record { rest = refl; few = tt }
@@ -55,7 +53,7 @@ none_next points a new p rows lt is added h =
     ap (λ (z : List (List Linear)). z ++ no_rows (drop (p + 1) points)) added
     ∙ append_assoc a (rows ∷ []) (no_rows (drop (p + 1) points))
     ∙ ap (λ (z : List Linear). a ++ z ∷ no_rows (drop (p + 1) points)) is
-    ∙ ap (λ (n : ℕ). a ++ [] ∷ no_rows (drop n points)) (sym (next p))
+    ∙ ap (λ (n : ℕ). a ++ [] ∷ no_rows (drop n points)) (sym (suc-eq-add-one p))
     ∙ ap (λ (z : List (List Linear)). a ++ z) (sym (none_from points p lt))
     ∙ h
 

@@ -1,8 +1,8 @@
 -- What an edge owes is covered by the rows of its point and of its test.
-use Rattle.std.proofs.Common.{◌≡◌, List, [], ◌∷◌, ◌++◌, sym, refl, subst, cond, Bool, true, false, arith, inl, inr, ℤ, ◌≤ℤ◌}
+use Rattle.std.proofs.Common.{◌≡◌, List, [], ◌∷◌, ◌++◌, sym, refl, subst, cond, Bool, true, false, inl, inr, ◌≤ℤ◌}
 use Rattle.std.specs.Prelude.{not}
 use Rattle.std.specs.List.{AllByRecursion as Each}
-use Rattle.std.proofs.lemmas.Int.{ints}
+use Rattle.std.specs.Int.Signed.{≤ℤ_refl}
 use Rattle.pc_rows.specs.Linear.{Linear}
 use Rattle.pc_rows.specs.Joins.{is_covered, IsCovered as Covers, SomeIsAtMost, with_row, joined}
 use Rattle.pc_rows.proofs.Joining.{covered_is, is_covered_test}
@@ -40,9 +40,6 @@ right_covers rows more r (inr h) = inr (right_rows rows more r h)
 
 -- a join covers what either list covers, and the rows of the second list
 
-le_self : (a : ℤ) → a ≤ℤ a
-le_self a = omega (arith, ints)
-
 with_covers : (rows : List Linear) (r q : Linear) → Covers q rows → Covers q (with_row rows r)
 with_covers rows r q h = by (is_covered r rows)
   where
@@ -55,7 +52,7 @@ with_covers_row rows r = by (is_covered r rows) refl
   where
     by : (t : Bool) → is_covered r rows ≡ t → Covers r (cond t rows (rows ++ r ∷ []))
     by true h = covered_is r rows h
-    by false h = right_covers rows (r ∷ []) r (inr (inl (refl, le_self r.constant)))
+    by false h = right_covers rows (r ∷ []) r (inr (inl (refl, ≤ℤ_refl r.constant)))
 
 joined_covers : (a b : List Linear) (r : Linear) → Covers r a → Covers r (joined a b)
 joined_covers a [] r h = h

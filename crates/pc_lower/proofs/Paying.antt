@@ -1,5 +1,5 @@
 -- Without loops the need pays every edge, and each of its rows is owed.
-use Rattle.std.proofs.Common.{◌≡◌, ℕ, suc, zero, List, [], ◌∷◌, ◌++◌, length, sym, refl, subst, cond, Bool, true, false, arith, inl, inr, ℤ, pos, ◌≤ℤ◌}
+use Rattle.std.proofs.Common.{◌≡◌, ℕ, suc, zero, List, [], ◌∷◌, ◌++◌, sym, refl, subst, cond, Bool, true, false, arith, inl, inr, ℤ, pos, ◌≤ℤ◌}
 use Rattle.std.specs.Prelude.{◌⊎◌, not, filter}
 use Rattle.std.specs.List.{AllByRecursion as Each}
 use Rattle.std.proofs.lemmas.Int.{ints}
@@ -17,9 +17,10 @@ use Rattle.pc_graph.specs.Arc.{Arc}
 use Rattle.pc_graph.specs.Carry.{back_all, owes, test_rows, HasVariable, Pays}
 use Rattle.pc_graph.specs.Exact.{Annotation}
 use Rattle.pc_graph.specs.Lists.{In}
-use Rattle.pc_graph.specs.Shape.{WhatIsOver, LeadsUp}
+use Rattle.pc_graph.specs.Shape.{LeadsUp}
 use Rattle.pc_graph.specs.Walk.{Pass}
 use Rattle.pc_graph.proofs.Lists.{each_at, each_in, in_either}
+use Rattle.pc_graph.proofs.Straights.{has_variable}
 use Rattle.pc_lower.specs.Annotation.{rows_at, is_head, NoHeads}
 use Rattle.pc_lower.specs.Need.{asked, leaving, gathered, need}
 use Rattle.pc_lower.specs.Laws.{NeedIsPaid, NeedIsOwed}
@@ -52,12 +53,6 @@ passes (Set x form lo hi) s t (r ∷ rows) has pass m =
       subst (λ (z : State). Meets z r) (sym pass.3) ((substitution_is_exact r form x (end_of lo) (end_of hi) s has ordered).0 m.0 pass.0 low high),
       passes (Set x form lo hi) s t rows has pass m.1,
     )
-
-has_variable : (n : ℕ) (w : What) (s : State) → WhatIsOver n w → length s ≡ n → HasVariable w s
-has_variable n (Enter params) s over long = tt
-has_variable n (Test own) s over long = tt
-has_variable n (Set x form lo hi) s over long = let lt = over.0 in omega arith
-has_variable n (Check own) s over long = tt
 
 -- who meets the rows of a point pays an edge from it whose owed rows they cover with those of its test
 pub pays : (w : What) (s : State) (rows target : List Linear) → HasVariable w s → Each (λ r. is_covered r (rows ++ test_rows w) ≡ true) (owes w target) → MeetsAll s rows →

@@ -1,13 +1,11 @@
 -- What holds of each item of a list, as a test and as a fact.
-use Rattle.std.proofs.Common.{◌≡◌, ℕ, ◌+◌, ℤ, pos, List, [], ◌∷◌, Bool, true, false, cond, not, refl, Option, Some, None}
-use Rattle.std.specs.Prelude.{◌&&◌, ◌||◌}
+use Rattle.std.proofs.Common.{◌≡◌, ℕ, zero, suc, subst, slice_get, ◌+◌, ℤ, pos, List, [], ◌∷◌, Bool, true, false, cond, refl, Option, Some, None}
+use Rattle.std.specs.Prelude.{◌||◌}
 use Rattle.std.specs.Bool.{MatchBool}
 use Rattle.std.specs.List.{AllByRecursion, list_all, position_from}
+use Rattle.std.proofs.lemmas.Bool.{and_from}
 use Rattle.pc_rows.specs.Linear.{is_zero}
 use Rattle.pc_rows.proofs.Ranges.{and_is}
-
-pub both : (b c : Bool) → b ≡ true → c ≡ true → (b && c) ≡ true
-both b c h g = rw (h, g) refl
 
 pub each_if : {A : Type 0} (p : A → Bool) (P : A → Type 0) → ((x : A) → p x ≡ true → P x) → (xs : List A) → list_all p xs ≡ true → AllByRecursion P xs
 each_if p P f [] h = tt
@@ -15,7 +13,7 @@ each_if p P f (x ∷ xs) h = let g = and_is (p x) (list_all p xs) h in (f x g.0,
 
 pub if_each : {A : Type 0} (p : A → Bool) (P : A → Type 0) → ((x : A) → P x → p x ≡ true) → (xs : List A) → AllByRecursion P xs → list_all p xs ≡ true
 if_each p P f [] h = refl
-if_each p P f (x ∷ xs) h = both (p x) (list_all p xs) (f x h.0) (if_each p P f xs h.1)
+if_each p P f (x ∷ xs) h = and_from (p x) (list_all p xs) (f x h.0) (if_each p P f xs h.1)
 
 -- a fact that is needed only where the first test fails
 pub matched_if : (b c : Bool) (P : Type 0) → (c ≡ true → P) → (b || c) ≡ true → MatchBool b (Unit {0}) P
@@ -41,20 +39,11 @@ pub passes_none : {A : Type 0} (t : A → Bool) (n : ℕ) (xs : List A) → AllB
 passes_none t n [] h = refl
 passes_none t n (x ∷ xs) h = rw (h.0) (passes_none t (n + 1) xs h.1)
 
-pub each_more : {A : Type 0} (P Q : A → Type 0) → ((x : A) → P x → Q x) → (xs : List A) → AllByRecursion P xs → AllByRecursion Q xs
-each_more P Q f [] h = tt
-each_more P Q f (x ∷ xs) h = (f x h.0, each_more P Q f xs h.1)
-
-pub not_true : (b : Bool) → (b ≡ true → ⊥) → b ≡ false
-not_true true h = absurd (h refl)
-not_true false h = refl
-
-pub not_false : (b : Bool) → not b ≡ false → b ≡ true
-not_false true h = refl
-not_false false h = absurd (cc)
-
-pub true_not : (b : Bool) → b ≡ true → not b ≡ false
-true_not b h = rw h refl
-
 pub zero_test : (c : ℤ) → c ≡ pos 0 → is_zero c ≡ true
 zero_test c h = rw h refl
+
+-- what holds of each item holds of the one at a place
+pub each_got : {A : Type 0} (P : A → Type 0) (xs : List A) (i : ℕ) (x : A) → AllByRecursion P xs → slice_get xs i ≡ Some x → P x
+each_got P [] i x h got = absurd (cc)
+each_got P (y ∷ xs) zero x h got = let same : y ≡ x = cc in subst P same h.0
+each_got P (y ∷ xs) (suc i) x h got = each_got P xs i x h.1 got

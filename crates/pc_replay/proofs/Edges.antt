@@ -1,9 +1,9 @@
 -- The turns of the loops over the rows that an edge owes, and over the edges of an alternative.
-use Rattle.std.proofs.Common.{◌≡◌, ℕ, zero, suc, ◌+◌, ◌<◌, ◌≤◌, List, [], ◌∷◌, ◌++◌, true, drop, get_or, length, min, refl, sym, ap, subst, ◌∙◌, arith, slice_get, ◌==◌, Option, Some, None}
-use Rattle.std.specs.List.{AllByRecursion, zip}
+use Rattle.std.proofs.Common.{◌≡◌, ℕ, ◌+◌, ◌<◌, ◌≤◌, List, ◌++◌, drop, get_or, length, refl, sym, ap, ◌∙◌, arith, slice_get, Some, None}
+use Rattle.std.specs.List.{zip}
 use Rattle.std.proofs.lemmas.Bool.Decides.{Decides-eqb}
 use Rattle.std.proofs.lemmas.List.{length-map}
-use Rattle.std.proofs.lemmas.Option.{slice_get_read, slice_get_within, get_or_from_slice_get}
+use Rattle.std.proofs.lemmas.Option.{slice_get_read}
 use Rattle.std.proofs.lemmas.Slice.Zip.{length-zip}
 use Rattle.pc_rows.specs.Linear.{Linear}
 use Rattle.pc_rows.specs.Evidence.{Proof}
@@ -22,6 +22,7 @@ use Rattle.pc_replay.specs.Flaws.{asked, row_flaw}
 use Rattle.pc_replay.specs.Rule.{rows_at, told, first_refusal, in_order, refusal, premises, row_ruling, edge_ruling, alternative_ruling}
 use Rattle.pc_replay.proofs.Ruled.{told_refuses, owed_is_asked}
 use Rattle.pc_replay.proofs.Turns.{refused_here, ruling_goes_on, ruled_all, got_pair}
+use Rattle.pc_replay.proofs.Alls.{each_got}
 
 pub asked_else : (w : What) (rows : List Linear) → ((own : List Linear) → w ≡ Check own → ⊥) → asked w rows ≡ rows
 asked_else (Enter params) rows h = refl
@@ -98,13 +99,8 @@ module _ (g : Flow) (n : ℕ) (a : Annotated) where
       pub alternative_goes_on : r ≡ answer.Accepted → in_order (edge_ruling n a) (i + 1) (drop (i + 1) edges) ≡ all_edges
       alternative_goes_on accepts = ruling_goes_on edges i (e, proofs) (got_pair g.edges a.proofs i e proofs edge proof) (edge_ruling n a) _ (sym is ∙ accepts) rest
 
-at_place : {A : Type 0} (P : A → Type 0) (xs : List A) (i : ℕ) (x : A) → AllByRecursion P xs → slice_get xs i ≡ Some x → P x
-at_place P [] i x all got = let lt = slice_get_within [] i x got in absurd (omega arith)
-at_place P (y ∷ xs) zero x all got = subst P (get_or_from_slice_get (y ∷ xs) zero x x got) all.0
-at_place P (y ∷ xs) (suc i) x all got = at_place P xs i x all.1 got
-
 -- each edge joins two of the points
 pub edge_within : (g : Flow) (i : ℕ) (e : Arc) → IsGraph g → slice_get g.edges i ≡ Some e → (e.from < length g.points) × (e.to < length g.points)
 edge_within g i e kept got =
-    let leads = at_place (LeadsUp g.points g.variables) g.edges i e kept.leads got in
+    let leads = each_got (LeadsUp g.points g.variables) g.edges i e kept.leads got in
     (leads.leaves, leads.reaches)

@@ -1,25 +1,20 @@
 -- The tests for what has to be in range say what is meant.
-use Rattle.std.proofs.Common.{◌≡◌, ℕ, ℤ, pos, ◌+ℤ◌, ◌*ℤ◌, List, [], ◌∷◌, Bool, true, refl}
+use Rattle.std.proofs.Common.{◌≡◌, ℕ, ℤ, pos, ◌+ℤ◌, ◌*ℤ◌, List, [], ◌∷◌, true, refl}
 use Rattle.std.specs.Prelude.{◌&&◌, slice_set}
 use Rattle.std.specs.List.{list_all}
+use Rattle.std.proofs.lemmas.Bool.{and_from}
 use Rattle.pc_rows.specs.declared.proof.Part.{Part}
-use Rattle.pc_rows.specs.Linear.{Linear, InRange, AllInRange, in_range, is_in_range, coefficient, is_zero, add_lists, scale_list, sum_of, scaled_by, negation}
+use Rattle.pc_rows.specs.Linear.{Linear, in_range, is_in_range, coefficient, is_zero, add_lists, scale_list, sum_of, scaled_by, negation}
 use Rattle.pc_rows.specs.Substitution.{lesser, ConstantFits, CoefficientsFit, CarryFits, SubstituteFits}
 use Rattle.pc_rows.specs.Evidence.{Proof}
 use Rattle.pc_rows.specs.Shows.{times_premise, PartsFit, TotalFits}
-use Rattle.pc_rows.proofs.Ranges.{and_is, in_is, is_in, to_test, from_test}
+use Rattle.pc_rows.proofs.Ranges.{and_is, in_is, is_in, to_test, from_test, in_all, all_in}
 use Rattle.pc_syntax.specs.Machine.{end_of}
 use Rattle.pc_graph.specs.declared.what.What.{What}
 use Rattle.pc_graph.specs.declared.what.What.TheVariants.{Enter, Test, Set, Check}
 use Rattle.pc_graph.specs.Carry.{BackFits}
 use Rattle.pc_replay.specs.Ranges.{constant_fits, coefficients_fit, substitute_fits, back_fits, parts_fit, total_fits}
-use Rattle.pc_replay.proofs.Alls.{both, each_if, if_each, matched_if, if_matched}
-
-all_in : (zs : List ℤ) → list_all in_range zs ≡ true → AllInRange zs
-all_in zs h = each_if in_range InRange is_in zs h
-
-in_all : (zs : List ℤ) → AllInRange zs → list_all in_range zs ≡ true
-in_all zs h = if_each in_range InRange in_is zs h
+use Rattle.pc_replay.proofs.Alls.{matched_if, if_matched}
 
 constant_in : (c k f lo hi : ℤ) → constant_fits c k f lo hi ≡ true → ConstantFits c k f lo hi
 constant_in c k f lo hi h =
@@ -46,10 +41,10 @@ in_constant c k f lo hi h =
 coefficients_in : (c : ℤ) (rs : List ℤ) (x : ℕ) (fs : List ℤ) → coefficients_fit c rs x fs ≡ true → CoefficientsFit c rs x fs
 coefficients_in c rs x fs h =
     let g = and_is (list_all in_range (scale_list c fs)) (list_all in_range (add_lists (scale_list c fs) (slice_set rs x (pos 0)))) h in
-    record { products = all_in (scale_list c fs) g.0; sums = all_in (add_lists (scale_list c fs) (slice_set rs x (pos 0))) g.1 }
+    record { products = in_all (scale_list c fs) g.0; sums = in_all (add_lists (scale_list c fs) (slice_set rs x (pos 0))) g.1 }
 
 in_coefficients : (c : ℤ) (rs : List ℤ) (x : ℕ) (fs : List ℤ) → CoefficientsFit c rs x fs → coefficients_fit c rs x fs ≡ true
-in_coefficients c rs x fs h = both _ _ (in_all (scale_list c fs) h.products) (in_all (add_lists (scale_list c fs) (slice_set rs x (pos 0))) h.sums)
+in_coefficients c rs x fs h = and_from _ _ (all_in (scale_list c fs) h.products) (all_in (add_lists (scale_list c fs) (slice_set rs x (pos 0))) h.sums)
 
 substitute_in : (r : Linear) (x : ℕ) (form : Linear) (lo hi : ℤ) → substitute_fits r x form lo hi ≡ true → SubstituteFits r x form lo hi
 substitute_in r x form lo hi h =
@@ -71,7 +66,7 @@ in_substitute r x form lo hi h =
     let constant = constant_fits c r.constant form.constant lo hi in
     let coefficients = coefficients_fit c r.coefficients x form.coefficients in
     if_matched (is_zero c) (constant && coefficients) (CarryFits r x form lo hi)
-    (λ g. both constant coefficients (in_constant c r.constant form.constant lo hi g.constant) (in_coefficients c r.coefficients x form.coefficients g.coefficients))
+    (λ g. and_from constant coefficients (in_constant c r.constant form.constant lo hi g.constant) (in_coefficients c r.coefficients x form.coefficients g.coefficients))
     h
 
 pub back_in : (w : What) (r : Linear) → back_fits w r ≡ true → BackFits w r
@@ -100,7 +95,7 @@ in_parts premises sum [] h = refl
 in_parts premises sum (p ∷ ps) h =
     let product = times_premise premises p in
     let next = sum_of sum product in
-    both (is_in_range product && is_in_range next) (parts_fit premises next ps) (both (is_in_range product) (is_in_range next) (to_test product h.0) (to_test next h.1)) (in_parts premises next ps h.2)
+    and_from (is_in_range product && is_in_range next) (parts_fit premises next ps) (and_from (is_in_range product) (is_in_range next) (to_test product h.0) (to_test next h.1)) (in_parts premises next ps h.2)
 
 pub total_in : (premises : List Linear) (goal : Linear) (p : Proof) → total_fits premises goal p ≡ true → TotalFits premises goal p
 total_in premises goal p h =
@@ -112,5 +107,5 @@ total_in premises goal p h =
 pub in_total : (premises : List Linear) (goal : Linear) (p : Proof) → TotalFits premises goal p → total_fits premises goal p ≡ true
 in_total premises goal p h =
     let start = scaled_by p.goal (negation goal) in
-    both (is_in_range (negation goal) && is_in_range start) (parts_fit premises start p.parts) (both (is_in_range (negation goal)) (is_in_range start) (to_test (negation goal) h.negated_goal) (to_test start h.product))
+    and_from (is_in_range (negation goal) && is_in_range start) (parts_fit premises start p.parts) (and_from (is_in_range (negation goal)) (is_in_range start) (to_test (negation goal) h.negated_goal) (to_test start h.product))
     (in_parts premises start p.parts h.parts)

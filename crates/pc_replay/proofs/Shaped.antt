@@ -3,7 +3,7 @@ use Rattle.std.proofs.Common.{◌≡◌, ℕ, zero, suc, ◌+◌, ◌≤◌, ℤ
 use Rattle.std.specs.Prelude.{◌&&◌}
 use Rattle.std.specs.List.{AllByRecursion, list_all, position_from}
 use Rattle.std.specs.Option.{is_some}
-use Rattle.std.proofs.lemmas.Bool.{eqb-true}
+use Rattle.std.proofs.lemmas.Bool.{eqb-true, and_from, not-false, not_from_true}
 use Rattle.std.proofs.lemmas.Bool.Decides.{Decides-eqb}
 use Rattle.pc_rows.specs.Linear.{Linear, IsOver, is_zero}
 use Rattle.pc_rows.proofs.Lists.{zero_is}
@@ -11,8 +11,9 @@ use Rattle.pc_rows.proofs.Ranges.{and_is}
 use Rattle.pc_graph.specs.Flow.{Flow}
 use Rattle.pc_cert.specs.declared.certificate.Annotated.{Annotated}
 use Rattle.pc_cert.specs.Certificate.{Certificate}
+use Rattle.pc_graph.proofs.Lists.{each_more}
 use Rattle.pc_replay.specs.Shape.{IsShaped, HasShape, is_over, are_over, is_shaped, has_shape, first_beyond}
-use Rattle.pc_replay.proofs.Alls.{both, each_if, if_each, each_more, none_passes, passes_none, not_false, true_not, zero_test}
+use Rattle.pc_replay.proofs.Alls.{each_if, if_each, none_passes, passes_none, zero_test}
 
 zeros_if : (n : ℕ) (cs : List ℤ) → list_all is_zero (drop n cs) ≡ true → (v : ℕ) → n ≤ v → get_or cs v (pos 0) ≡ pos 0
 zeros_if n [] h v le = refl
@@ -24,7 +25,7 @@ zeros_if (suc n) (c ∷ cs) h (suc v) le = zeros_if n cs h v (omega arith)
 if_zeros : (n : ℕ) (cs : List ℤ) → ((v : ℕ) → n ≤ v → get_or cs v (pos 0) ≡ pos 0) → list_all is_zero (drop n cs) ≡ true
 if_zeros zero [] h = refl
 if_zeros (suc n) [] h = refl
-if_zeros zero (c ∷ cs) h = both (is_zero c) (list_all is_zero cs) (zero_test c (h zero (omega arith))) (if_zeros zero cs (λ v le. h (suc v) (omega arith)))
+if_zeros zero (c ∷ cs) h = and_from (is_zero c) (list_all is_zero cs) (zero_test c (h zero (omega arith))) (if_zeros zero cs (λ v le. h (suc v) (omega arith)))
 if_zeros (suc n) (c ∷ cs) h = if_zeros n cs (λ v le. h (suc v) (omega arith))
 
 pub over_if : (n : ℕ) (r : Linear) → is_over n r ≡ true → IsOver n r
@@ -36,11 +37,11 @@ if_over n r h = if_zeros n r.coefficients h
 -- no row goes beyond exactly where all are over the variables
 pub none_beyond_if : (n : ℕ) (rows : List Linear) → first_beyond n rows ≡ None → AllByRecursion (IsOver n) rows
 none_beyond_if n rows h =
-    each_more (λ r. not (is_over n r) ≡ false) (IsOver n) (λ r e. over_if n r (not_false (is_over n r) e)) rows (none_passes (λ r. not (is_over n r)) 0 rows h)
+    each_more (λ r. not (is_over n r) ≡ false) (IsOver n) (λ r e. over_if n r (not-false (is_over n r) e)) rows (none_passes (λ r. not (is_over n r)) 0 rows h)
 
 pub if_none_beyond : (n : ℕ) (rows : List Linear) → AllByRecursion (IsOver n) rows → first_beyond n rows ≡ None
 if_none_beyond n rows h =
-    passes_none (λ r. not (is_over n r)) 0 rows (each_more (IsOver n) (λ r. not (is_over n r) ≡ false) (λ r over. true_not (is_over n r) (if_over n r over)) rows h)
+    passes_none (λ r. not (is_over n r)) 0 rows (each_more (IsOver n) (λ r. not (is_over n r) ≡ false) (λ r over. not_from_true (is_over n r) (if_over n r over)) rows h)
 
 equal : (a b : ℕ) → a ≡ b → (a == b) ≡ true
 equal a b e = (Decides-eqb a b).1 e
@@ -57,8 +58,8 @@ shaped_if points edges variables a h =
 
 if_shaped : (points edges variables : ℕ) (a : Annotated) → IsShaped points edges variables a → is_shaped points edges variables a ≡ true
 if_shaped points edges variables a h =
-    both ((length a.rows == points) && (length a.proofs == edges)) (list_all (are_over variables) a.rows)
-    (both (length a.rows == points) (length a.proofs == edges) (equal (length a.rows) points h.rows) (equal (length a.proofs) edges h.proofs))
+    and_from ((length a.rows == points) && (length a.proofs == edges)) (list_all (are_over variables) a.rows)
+    (and_from (length a.rows == points) (length a.proofs == edges) (equal (length a.rows) points h.rows) (equal (length a.proofs) edges h.proofs))
     (if_each (are_over variables) (AllByRecursion (IsOver variables)) (λ rows. if_each (is_over variables) (IsOver variables) (if_over variables) rows) a.rows h.over)
 
 pub shape_if : (g : Flow) (c : Certificate) → has_shape g c ≡ true → HasShape g c
@@ -82,8 +83,8 @@ if_shape g c h =
     let points = c.points == length g.points in
     let edges = c.edges == length g.edges in
     let variables = c.variables == g.variables in
-    both (points && edges && variables) (list_all (is_shaped c.points c.edges c.variables) c.alternatives)
-    (both (points && edges) variables (both points edges (equal c.points (length g.points) h.points) (equal c.edges (length g.edges) h.edges)) (equal c.variables g.variables h.variables))
+    and_from (points && edges && variables) (list_all (is_shaped c.points c.edges c.variables) c.alternatives)
+    (and_from (points && edges) variables (and_from points edges (equal c.points (length g.points) h.points) (equal c.edges (length g.edges) h.edges)) (equal c.variables g.variables h.variables))
     (if_each (is_shaped c.points c.edges c.variables) (IsShaped c.points c.edges c.variables) (if_shaped c.points c.edges c.variables) c.alternatives h.each)
 
 by_first : (b c : Bool) (k : ℕ) (rest : Option ℕ) → is_some rest ≡ not c → is_some (cond (not b) (Some k) rest) ≡ not (b && c)

@@ -1,6 +1,6 @@
 -- Whatever the rule accepts is safe.
-use Rattle.std.proofs.Common.{◌≡◌, ℕ, suc, ◌+◌, ◌-◌, ◌≤◌, ℤ, pos, ◌≤ℤ◌, List, [], ◌∷◌, ◌++◌, map, length, get_or, refl, sym, ap, subst, ◌∙◌, arith, length-append, inl, inr}
-use Rattle.std.specs.Prelude.{replicate, ◌⊎◌}
+use Rattle.std.proofs.Common.{◌≡◌, ℕ, ◌+◌, ◌-◌, ◌≤◌, pos, ◌≤ℤ◌, List, [], ◌∷◌, ◌++◌, map, length, get_or, refl, sym, ap, subst, ◌∙◌, arith, length-append, inl, inr}
+use Rattle.std.specs.Prelude.{replicate}
 use Rattle.std.specs.List.{AllByRecursion, zip}
 use Rattle.std.proofs.lemmas.Int.{ints}
 use Rattle.std.proofs.lemmas.List.{length-map, length-replicate}
@@ -9,22 +9,24 @@ use Rattle.pc_rows.specs.Evidence.{Proof}
 use Rattle.pc_rows.proofs.Carrying.{substitution_is_exact}
 use Rattle.pc_rows.proofs.Farkas.{shown_is_met}
 use Rattle.pc_rows.proofs.First.{value_of_first, value_at_entry, zero_from_all}
+use Rattle.pc_rows.proofs.Joining.{each_left, each_right, each_join}
 use Rattle.pc_syntax.specs.Machine.{end_of}
 use Rattle.pc_syntax.specs.Values.{State}
 use Rattle.pc_graph.specs.Arc.{Arc}
 use Rattle.pc_graph.specs.declared.what.What.{What}
 use Rattle.pc_graph.specs.declared.what.What.TheVariants.{Enter, Test, Set, Check}
-use Rattle.pc_graph.specs.Carry.{back, owes, test_rows, HasVariable, Pays}
+use Rattle.pc_graph.specs.Carry.{back, test_rows, HasVariable, Pays}
 use Rattle.pc_graph.specs.Flow.{Flow}
 use Rattle.pc_graph.specs.Lists.{In}
-use Rattle.pc_graph.specs.Shape.{WhatIsOver, IsGraph}
+use Rattle.pc_graph.specs.Shape.{IsGraph}
 use Rattle.pc_graph.specs.Walk.{Pass, IsEntry, entered, GraphSafe}
 use Rattle.pc_graph.proofs.Bridge.{steps_correspond}
 use Rattle.pc_graph.proofs.Closed.{paid_is_safe}
 use Rattle.pc_graph.proofs.Graphs.{graph_kept}
-use Rattle.pc_graph.proofs.Lists.{each_left, each_right, each_join, each_at}
+use Rattle.pc_graph.proofs.Lists.{each_at}
 use Rattle.pc_cert.specs.declared.certificate.Annotated.{Annotated}
 use Rattle.pc_cert.specs.Certificate.{entry_rows}
+use Rattle.pc_graph.proofs.Straights.{has_variable}
 use Rattle.pc_replay.specs.Accepts.{RowProved, EdgeProved, AlternativeProved}
 use Rattle.pc_replay.specs.Flaws.{asked}
 use Rattle.pc_replay.specs.Laws.{AcceptedIsSafe, AcceptedProgramsAreSafe}
@@ -89,20 +91,14 @@ paired P (z ∷ xs) [] x long h m = absurd (omega arith)
 paired P (z ∷ xs) (y ∷ ys) x long h (inl e) = (y, subst (λ z. P (z, y)) (sym e) h.0)
 paired P (z ∷ xs) (y ∷ ys) x long h (inr m) = paired P xs ys x (omega arith) h.1 m
 
-has_variable : (n : ℕ) (w : What) (s : State) → length s ≡ n → WhatIsOver n w → HasVariable w s
-has_variable n (Enter params) s long over = tt
-has_variable n (Test rows) s long over = tt
-has_variable n (Check rows) s long over = tt
-has_variable n (Set x f lo hi) s long over = let lt = over.0 in omega arith
-
-entered_long : (g : Flow) (s : State) → IsGraph g → IsEntry g s → length (entered g s) ≡ g.variables
+pub entered_long : (g : Flow) (s : State) → IsGraph g → IsEntry g s → length (entered g s) ≡ g.variables
 entered_long g s kept entry =
     let few = kept.parameters in
     let zeros = length-replicate (g.variables - g.params) (pos 0) in
     length-append s (replicate (g.variables - g.params) (pos 0)) ∙ omega arith
 
 -- the locals are 0 at the entry
-entered_value : (r : Linear) (m : ℕ) (s : State) → value r (s ++ replicate m (pos 0)) ≡ value r s
+pub entered_value : (r : Linear) (m : ℕ) (s : State) → value r (s ++ replicate m (pos 0)) ≡ value r s
 entered_value r m s =
     sym (value_at_entry (length s) m r s refl) ∙ value_of_first (length s) r s ∙ ap (λ t. value r t) (zero_from_all (length s) s (omega arith))
 
@@ -120,7 +116,7 @@ module _ (g : Flow) (kept : IsGraph g) (s : State) (entry : IsEntry g s) where
       paid_is_safe g (rows_at a) s
       (λ e member u wide met.
       let edge = paired (λ x. EdgeProved a x.0 x.1) g.edges a.proofs e long proved.edges member in
-      pays e.what u (rows_at a e.from) (rows_at a e.to) (has_variable g.variables e.what u wide (each_at _ g.edges e kept.leads member).over) met
+      pays e.what u (rows_at a e.from) (rows_at a e.to) (has_variable g.variables e.what u (each_at _ g.edges e kept.leads member).over wide) met
       (edge_met a e edge.0 u edge.1))
       (entered_long g s kept entry)
       (entered_meets (rows_at a 0) (g.variables - g.params) s (subst (MeetsAll s) (first_rows a.rows) m))

@@ -1,8 +1,7 @@
 -- The turns of a loop over a list: what is said of the rest of the list, and what is still said of it one item further on.
-use Rattle.std.proofs.Common.{◌≡◌, ℕ, ◌+◌, ◌<◌, ◌≤◌, List, [], ◌∷◌, Bool, true, false, cond, drop, length, get_or, refl, sym, ap, ◌∙◌, arith, slice_get, Option, Some}
-use Rattle.std.specs.Prelude.{◌&&◌, nat_lt}
-use Rattle.std.specs.List.{AllByRecursion, list_all, position_from, zip}
-use Rattle.std.proofs.lemmas.Bool.Decides.{nat_tests}
+use Rattle.std.proofs.Common.{◌≡◌, ℕ, ◌+◌, ◌≤◌, List, Bool, true, false, drop, length, get_or, refl, sym, ap, ◌∙◌, arith, slice_get, Option, Some}
+use Rattle.std.specs.Prelude.{◌&&◌}
+use Rattle.std.specs.List.{list_all, position_from, zip}
 use Rattle.std.proofs.lemmas.List.{drop_all}
 use Rattle.std.proofs.lemmas.Option.{slice_get_within, slice_get-get_or, get_or_from_slice_get}
 use Rattle.std.proofs.lemmas.Slice.Zip.{length-zip, get_or-zip}
@@ -13,12 +12,6 @@ use Rattle.pc_replay.specs.Rule.{first_refusal, in_order}
 
 pub false_left : (b c : Bool) → b ≡ false → false ≡ (b && c)
 false_left b c h = rw h refl
-
-pub not_below : (a b : ℕ) → b ≤ a → nat_lt a b ≡ false
-not_below a b h = grind (arith, nat_tests)
-
-pub below : (a b : ℕ) → a < b → nat_lt a b ≡ true
-below a b h = grind (arith, nat_tests)
 
 module _ {A : Type 0} (xs : List A) (i : ℕ) (x : A) (got : slice_get xs i ≡ Some x) where
   pub all_fail : (p : A → Bool) (goal : Bool) → p x ≡ false → list_all p (drop i xs) ≡ goal → goal ≡ false

@@ -64,7 +64,7 @@ are_zeros (c ∷ cs) h = and_both (is_zero c) (list_all is_zero cs) (ap is_zero 
 pub number_is_meant : NumberIsMeant
 number_is_meant r = (zeros_are r.coefficients, are_zeros r.coefficients)
 
-always_is : (r : Linear) → is_always r ≡ true → IsAlways r
+pub always_is : (r : Linear) → is_always r ≡ true → IsAlways r
 always_is r h =
     let b = and_is (list_all is_zero r.coefficients) (int_le (pos 0) r.constant) h in
     (zeros_are r.coefficients b.0, le_is (pos 0) r.constant b.1)
@@ -72,7 +72,7 @@ always_is r h =
 is_always_test : (r : Linear) → IsAlways r → is_always r ≡ true
 is_always_test r h = and_both (list_all is_zero r.coefficients) (int_le (pos 0) r.constant) (are_zeros r.coefficients h.0) (is_le (pos 0) r.constant h.1)
 
-at_most_is : (a r : Linear) → is_at_most a r ≡ true → IsAtMost a r
+pub at_most_is : (a r : Linear) → is_at_most a r ≡ true → IsAtMost a r
 at_most_is a r h =
     let b = and_is (pointwise int_eq a.coefficients r.coefficients) (int_le a.constant r.constant) h in
     ((signed_items a.coefficients r.coefficients).0 b.0, le_is a.constant r.constant b.1)

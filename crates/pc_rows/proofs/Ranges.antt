@@ -20,11 +20,11 @@ in_is z h = grind (arith, nat_tests)
 pub is_in : (z : ℤ) → in_range z ≡ true → InRange z
 is_in z h = grind (arith, nat_tests)
 
-all_in : (zs : List ℤ) → AllInRange zs → list_all in_range zs ≡ true
+pub all_in : (zs : List ℤ) → AllInRange zs → list_all in_range zs ≡ true
 all_in [] h = refl
 all_in (z ∷ zs) h = rw (in_is z h.0, all_in zs h.1)
 
-in_all : (zs : List ℤ) → list_all in_range zs ≡ true → AllInRange zs
+pub in_all : (zs : List ℤ) → list_all in_range zs ≡ true → AllInRange zs
 in_all [] h = tt
 in_all (z ∷ zs) h = let p = and_is (in_range z) (list_all in_range zs) h in (is_in z p.0, in_all zs p.1)
 

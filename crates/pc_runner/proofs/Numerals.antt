@@ -4,6 +4,7 @@ use Rattle.std.specs.Prelude.{◌&&◌, if◌then◌else◌, unsigned_abs}
 use Rattle.std.specs.List.{list_all}
 use Rattle.std.proofs.Math.Seq.{take-length}
 use Rattle.std.proofs.lemmas.Bool.Decides.{nat_tests}
+use Rattle.std.proofs.lemmas.Bool.{and_parts}
 use Rattle.pc_text.specs.declared.token.TheConstants.{LARGEST}
 use Rattle.pc_text.specs.Bytes.{Bytes}
 use Rattle.pc_text.specs.Lexemes.{in_number}
@@ -12,17 +13,13 @@ use Rattle.pc_text.specs.Numerals.{positive_len, signed_len, numeral_len, intege
 use Rattle.pc_runner.specs.Range.{is_in_range}
 use Rattle.pc_runner.specs.Words.{is_empty, is_positive, is_numeral}
 
-pub and_is : (b c : Bool) → (b && c) ≡ true → (b ≡ true) × (c ≡ true)
-and_is true c h = (refl, h)
-and_is false c h = cc
-
 run_all : (w : Bytes) → list_all in_number w ≡ true → run in_number w ≡ length w
 run_all [] h = refl
-run_all (b ∷ w) h = let p = and_is (in_number b) (list_all in_number w) h in rw (p.0) (ap suc (run_all w (p.1)))
+run_all (b ∷ w) h = let p = and_parts (in_number b) (list_all in_number w) h in rw (p.0) (ap suc (run_all w (p.1)))
 
 positive_is : (w : Bytes) → is_positive w ≡ true → positive_len w ≡ length w
 positive_is [] h = absurd (cc)
-positive_is (b ∷ w) h = let p = and_is (nat_le 49 b && nat_le b 57) (list_all in_number w) h in rw (p.0) (ap suc (run_all w (p.1)))
+positive_is (b ∷ w) h = let p = and_parts (nat_le 49 b && nat_le b 57) (list_all in_number w) h in rw (p.0) (ap suc (run_all w (p.1)))
 
 signed_is : (w : Bytes) → is_positive w ≡ true → signed_len (length w) ≡ suc (length w)
 signed_is [] h = absurd (cc)

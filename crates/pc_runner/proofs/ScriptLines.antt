@@ -1,8 +1,8 @@
 -- The lines of a script, one after another.
-use Rattle.std.proofs.Common.{◌≡◌, ◌∙◌, refl, ap, sym, subst, ℕ, zero, suc, ◌+◌, ◌<◌, ◌≤◌, nat_lt, Bool, true, false, not, ℤ, List, [], ◌∷◌, ◌++◌, length, replicate, Result, Ok, Err, arith, length-append}
+use Rattle.std.proofs.Common.{◌≡◌, ◌∙◌, refl, ap, sym, subst, ℕ, zero, suc, ◌+◌, ◌<◌, ◌≤◌, nat_lt, true, false, ℤ, List, [], ◌∷◌, ◌++◌, length, replicate, Result, Ok, Err, arith, length-append}
 use Rattle.std.proofs.lemmas.List.{length-replicate}
 use Rattle.std.specs.List.{All, list_all, count_by}
-use Rattle.std.proofs.lemmas.Bool.{lt-ltb, le-ltb}
+use Rattle.std.proofs.lemmas.Bool.{lt-ltb, le-ltb, not-true, and_parts}
 use Rattle.std.proofs.lemmas.List.Splits.{slice_split_at, slice_split_none, length-slice_split}
 use Rattle.pc_text.specs.Bytes.{Bytes}
 use Rattle.pc_text.specs.Places.{is_line_feed}
@@ -14,13 +14,8 @@ use Rattle.pc_runner.specs.declared.script.Script.{Script}
 use Rattle.pc_runner.specs.declared.script.TheConstants.{CHOICES}
 use Rattle.pc_runner.specs.Range.{is_in_range}
 use Rattle.pc_runner.specs.Words.{is_empty}
-use Rattle.pc_runner.proofs.Numerals.{and_is}
 use Rattle.pc_runner.specs.Answers.{Unless, Gives, Reads}
 use Rattle.pc_runner.specs.Scripts.{on_ok, lines, choice_of, with_choice, choices_of, script_by, script_of, entry_of, Choosing}
-
-negated : (b : Bool) → not b ≡ true → b ≡ false
-negated true e = cc
-negated false e = refl
 
 feed_by : (b : ℕ) (line : Bytes) → is_line_feed b ≡ false → All (λ b. is_line_feed b ≡ false) line → All (λ b. is_line_feed b ≡ false) (b ∷ line)
 feed_by b line h more zero d l = h
@@ -29,7 +24,7 @@ feed_by b line h more (suc k) d l = more k d (omega arith)
 -- no byte of a line is a line feed
 no_feed : (line : Bytes) → EachPasses in_line line → All (λ b. is_line_feed b ≡ false) line
 no_feed [] h = λ k d l. absurd (omega arith)
-no_feed (b ∷ line) h = feed_by b line (negated (is_line_feed b) (h.0)) (no_feed line (h.1))
+no_feed (b ∷ line) h = feed_by b line (not-true (is_line_feed b) (h.0)) (no_feed line (h.1))
 
 pub line_first : (b line rest : Bytes) → IsLine b line true rest → lines b ≡ line ∷ lines rest
 line_first b line rest h = ap lines h.0 ∙ slice_split_at is_line_feed line 10 rest (no_feed line h.1) refl
@@ -144,7 +139,7 @@ all_replicated (suc n) z h = rw h (all_replicated n z h)
 
 pub all_appended : (xs ys : List ℤ) → list_all is_in_range xs ≡ true → list_all is_in_range ys ≡ true → list_all is_in_range (xs ++ ys) ≡ true
 all_appended [] ys h g = g
-all_appended (x ∷ xs) ys h g = let p = and_is (is_in_range x) (list_all is_in_range xs) h in rw (p.0) (all_appended xs ys (p.1) g)
+all_appended (x ∷ xs) ys h g = let p = and_parts (is_in_range x) (list_all is_in_range xs) h in rw (p.0) (all_appended xs ys (p.1) g)
 
 pub few_more : (found all : List ℤ) (n : ℕ) (z : ℤ) → length found + n ≤ CHOICES → all ≡ found ++ replicate n z → length all ≤ CHOICES
 few_more found all n z l e =

@@ -47,7 +47,7 @@ all_set (x ∷ xs) (suc v) z h k =
     let p = and_is (in_range x) (list_all in_range xs) h in
     and_of (in_range x) (list_all in_range (set xs v z)) p.0 (all_set xs v z p.1 k)
 
-get_or-zeros : (n v : ℕ) → get_or (replicate n (pos 0)) v (pos 0) ≡ pos 0
+pub get_or-zeros : (n v : ℕ) → get_or (replicate n (pos 0)) v (pos 0) ≡ pos 0
 get_or-zeros zero v = refl
 get_or-zeros (suc n) zero = refl
 get_or-zeros (suc n) (suc v) = get_or-zeros n v

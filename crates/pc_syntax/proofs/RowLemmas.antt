@@ -106,7 +106,7 @@ conjunctions_are_rows (c ∷ cs) s h =
 
 -- ---- `!=`
 
-met_or_not : (r : Linear) (s : State) → Meets s r ⊎ Meets s (negation r)
+pub met_or_not : (r : Linear) (s : State) → Meets s r ⊎ Meets s (negation r)
 met_or_not r s = by_lt_z (value r s) (pos 0) (λ h. inr (let e = value-negation r s in omega (arith, ints))) (λ h. inl h)
 
 pub not_both : (r : Linear) (s : State) → Meets s r → Meets s (negation r) → ⊥

@@ -7,7 +7,7 @@ abbrev total : List ℕ → ℕ
 total [] = 0
 total (n ∷ ns) = n + total ns
 
-abbrev weight_step : Stmt-F ℕ → ℕ
+abbrev pub weight_step : Stmt-F ℕ → ℕ
 weight_step (stmt.Set p v r) = 1
 weight_step (stmt.If p t xs ys) = 2 + (total xs + total ys)
 weight_step (stmt.While p t tried xs) = 2 + total xs

@@ -1,12 +1,13 @@
 use Rattle.std.proofs.Common.{List, sym, subst}
 use Rattle.pc_rows.specs.Linear.{Linear}
 use Rattle.pc_lower.specs.Annotation.{AreOver}
-use Rattle.pc_certify.proofs.Choosing.{no_rows_over, candidate_is}
+use Rattle.pc_lower.proofs.Annotations.{none_over}
+use Rattle.pc_certify.proofs.Choosing.{candidate_is}
 use Rattle.pc_certify.proofs.inference.candidate.Goals as goal
 
 pub complete-requires-clause-over : goal.complete-requires-clause-over
 complete-requires-clause-over c =
-    subst (λ (z : List (List Linear)). AreOver c.args.g.now.variables z) (sym c.in_ok-heads.ensures) (no_rows_over c.args.g.now.variables c.args.g.now.points)
+    subst (λ (z : List (List Linear)). AreOver c.args.g.now.variables z) (sym c.in_ok-heads.ensures) (none_over c.args.g.now.variables c.args.g.now.points)
 
 pub returns-in-Ok : goal.returns-in-Ok
 returns-in-Ok c =

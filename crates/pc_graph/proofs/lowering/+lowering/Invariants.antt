@@ -1,7 +1,7 @@
 use Rattle.std.proofs.Common.{◌+◌, ◌*◌}
 use Rattle.pc_syntax.specs.declared.tree.Stmt.TheVariants.{If, While}
+use Rattle.pc_syntax.proofs.Weights.{weight, weights}
 use Rattle.pc_graph.proofs.Drawing.{Doing}
-use Rattle.pc_graph.proofs.Weights.{weight, weights}
 use Rattle.pc_graph.proofs.lowering.+lowering.Given as goal
 
 abbrev pub invariant-lower_list-loop-s : goal.invariant-lower_list-loop-s
