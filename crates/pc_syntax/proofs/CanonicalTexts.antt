@@ -1,24 +1,22 @@
 -- The pieces of a canonical text stand apart.
-use Rattle.std.proofs.Common.{◌≡◌, ◌≤◌, ◌<◌, ℕ, zero, suc, ◌+◌, ℤ, pos, negsuc, Bool, true, false, cond, nat_lt, List, [], ◌∷◌, ◌++◌, length, map, take, drop, Option, Some, None, refl, sym, ap, ◌∙◌, subst, arith, append_assoc, get_or}
+use Rattle.std.proofs.Common.{◌≡◌, ◌<◌, ℕ, zero, suc, ◌+◌, ℤ, pos, negsuc, Bool, true, false, nat_lt, List, [], ◌∷◌, ◌++◌, length, map, take, drop, Option, Some, None, refl, sym, ap, ◌∙◌, subst, arith, append_assoc, get_or}
 use Rattle.std.specs.Prelude.{◌&&◌, not, nat_le, int_le}
-use Rattle.std.specs.List.{list_all, flat_map, AllByRecursion}
-use Rattle.std.proofs.lemmas.Bool.Decides.{nat_tests}
+use Rattle.std.specs.List.{list_all, AllByRecursion}
+use Rattle.std.proofs.lemmas.Bool.{ltb-true}
 use Rattle.pc_text.specs.Bytes.{Bytes}
 use Rattle.pc_text.specs.Named.{Named}
 use Rattle.pc_text.specs.Lexemes.{class}
-use Rattle.pc_text.specs.declared.place.Place.{Place}
 use Rattle.pc_rows.specs.Linear.{in_range}
 use Rattle.pc_rows.specs.declared.row.TheConstants.{VARIABLES}
 use Rattle.pc_grammar.specs.declared.symbol.Terminal.{Terminal}
 use Rattle.pc_grammar.specs.declared.symbol.Terminal.TheVariants as terminal
-use Rattle.pc_grammar.specs.declared.limits.TheConstants.{COMPARISONS, BRACES, SIGNS}
+use Rattle.pc_grammar.specs.declared.limits.TheConstants.{COMPARISONS, SIGNS}
 use Rattle.pc_grammar.specs.declared.tree.Op.{Op}
 use Rattle.pc_grammar.specs.declared.tree.Op.TheVariants as op
 use Rattle.pc_grammar.specs.declared.tree.Bound.{Bound}
 use Rattle.pc_grammar.specs.declared.tree.Bound.TheVariants as bound
 use Rattle.pc_grammar.specs.declared.tree.Choice.{Choice}
 use Rattle.pc_syntax.specs.declared.limits.TheConstants.{EDGES}
-use Rattle.pc_syntax.specs.declared.program.Program.{Program}
 use Rattle.pc_syntax.specs.declared.tree.Expr.{Expr, Expr-F, map-Expr, roll-Expr, fold-roll-Expr}
 use Rattle.pc_syntax.specs.declared.tree.Expr.TheOpen as expr
 use Rattle.pc_syntax.specs.declared.tree.Compare.{Compare}
@@ -133,9 +131,6 @@ each_at w [] v h l = absurd (omega arith)
 each_at w (x ∷ names) zero h l = (and_is (is_name x) (list_all is_name names) h).0
 each_at w (x ∷ names) (suc v) h l = each_at w names v (and_is (is_name x) (list_all is_name names) h).1 (omega arith)
 
-below_is : (a b : ℕ) → nat_lt a b ≡ true → a < b
-below_is a b h = grind (arith, nat_tests)
-
 module _ (names : List Bytes) (each : list_all is_name names ≡ true) where
   n : ℕ
   n = length names
@@ -172,7 +167,7 @@ module _ (names : List Bytes) (each : list_all is_name names ≡ true) where
   good : (e : Expr) → IsGood e
   good e = by_cases IsGood
       (λ z. good_by (expr.Num z) (λ h b l r stop. ((h, stop), tt)))
-      (λ v. good_by (expr.Name v) (λ h b l r stop. ((named v (below_is v (length names) b), stop), tt)))
+      (λ v. good_by (expr.Name v) (λ h b l r stop. ((named v (ltb-true v (length names) b), stop), tt)))
       (λ a p g. good_by (expr.Neg a p) (λ h b l.
       nice_wrapped (wraps_negation l) (Mark terminal.Minus ∷ expr_pieces names a level.Atom) (λ r stop. sign terminal.Minus (expr_pieces names a level.Atom) r refl refl (g h b level.Atom r stop))))
       (λ a b p ga gb. good_by (expr.Add a b p) (λ h g l. good_two a b terminal.Plus wraps_sum level.Expression level.Addend refl ga gb h g l))
@@ -352,7 +347,7 @@ module _ (names : List Bytes) (each : list_all is_name names ≡ true) where
       let end : List Piece = Mark terminal.Semicolon ∷ LineEnd ∷ [] in (
         tt,
         (
-          (named v (below_is v (length names) a.0), space),
+          (named v (ltb-true v (length names) a.0), space),
           (
             tt,
             before_space terminal.Assign (right_pieces names x ++ end) r refl

@@ -1,8 +1,8 @@
 -- The counts over the symbols of an expression's pieces.
-use Rattle.std.proofs.Common.{◌≡◌, ℕ, ◌+◌, ◌<◌, ◌≤◌, refl, ◌∙◌, ap, arith, List, [], ◌∷◌, ◌++◌, Bool, true, false, Ok}
-use Rattle.std.specs.Prelude.{nat_lt, nat_le}
+use Rattle.std.proofs.Common.{◌≡◌, ℕ, ◌+◌, ◌≤◌, refl, ◌∙◌, ap, arith, List, [], ◌∷◌, ◌++◌, Bool, true, false, Ok}
+use Rattle.std.specs.Prelude.{nat_le}
 use Rattle.std.specs.List.{list_all}
-use Rattle.std.proofs.lemmas.Bool.Decides.{nat_tests}
+use Rattle.std.proofs.lemmas.Bool.{leb-true, lt-ltb}
 use Rattle.pc_text.specs.Bytes.{Bytes}
 use Rattle.pc_grammar.specs.declared.symbol.Symbol.{Symbol}
 use Rattle.pc_grammar.specs.declared.symbol.Terminal.{Terminal}
@@ -57,12 +57,6 @@ is_of_expr (Mark t) = in_expr t
 is_of_expr (Name w) = true
 is_of_expr (Number z) = true
 
-pub at_most : (a b : ℕ) → nat_le a b ≡ true → a ≤ b
-at_most a b h = grind (arith, nat_tests)
-
-pub room : (a b : ℕ) → a < b → nat_lt a b ≡ true
-room a b h = grind (arith, nat_tests)
-
 module _ (b n k : ℕ) (c : Counts) (s : Symbol) (r : Text) (w : Within b n k c) where
   -- a symbol that is no sign
   plain : (t : Terminal) → s.terminal ≡ t → counted c s r ≡ Ok (record { braces = c.braces; signs = c.signs; ands = c.ands; behind_keyword = false }) → Step c s r (Within b n k)
@@ -73,11 +67,11 @@ module _ (b n k : ℕ) (c : Counts) (s : Symbol) (r : Text) (w : Within b n k c)
   sign t e h = record { after = record { braces = c.braces; signs = c.signs + 1; ands = c.ands; behind_keyword = false }; runs = h; holds = record { braces_are = w.braces_are; ands_are = w.ands_are; signs_are = ap (λ (m : ℕ). m + 1) w.signs_are; behind_none = refl } }
 
   mark_step : (t : Terminal) → in_expr t ≡ true → s.terminal ≡ t → k + sign_weight t ≤ SIGNS → NoChoice r → Step c s r (Within b n (k + sign_weight t))
-  mark_step terminal.OpenParen i e h f = sign terminal.OpenParen e (rw (e, w.behind_none, room c.signs SIGNS (let g = w.signs_are in omega arith)) refl)
+  mark_step terminal.OpenParen i e h f = sign terminal.OpenParen e (rw (e, w.behind_none, lt-ltb c.signs SIGNS (let g = w.signs_are in omega arith)) refl)
   mark_step terminal.CloseParen i e h f = let z : k + 0 ≡ k = omega arith in rw z (plain terminal.CloseParen e (rw e refl))
-  mark_step terminal.Plus i e h f = sign terminal.Plus e (rw (e, f, room c.signs SIGNS (let g = w.signs_are in omega arith)) refl)
-  mark_step terminal.Minus i e h f = sign terminal.Minus e (rw (e, room c.signs SIGNS (let g = w.signs_are in omega arith)) refl)
-  mark_step terminal.Star i e h f = sign terminal.Star e (rw (e, room c.signs SIGNS (let g = w.signs_are in omega arith)) refl)
+  mark_step terminal.Plus i e h f = sign terminal.Plus e (rw (e, f, lt-ltb c.signs SIGNS (let g = w.signs_are in omega arith)) refl)
+  mark_step terminal.Minus i e h f = sign terminal.Minus e (rw (e, lt-ltb c.signs SIGNS (let g = w.signs_are in omega arith)) refl)
+  mark_step terminal.Star i e h f = sign terminal.Star e (rw (e, lt-ltb c.signs SIGNS (let g = w.signs_are in omega arith)) refl)
   mark_step t i e h f = absurd (cc)
 
 -- no piece of an expression begins a choice
@@ -154,5 +148,5 @@ module _ (names : List Bytes) where
   pub expr_counted : (src : Bytes) (b n : ℕ) (x : Expr) → shown_expr names x ≡ true → Count src (expr_pieces names x level.Expression) (Within b n 0) (Here b n) NoChoice
   expr_counted src b n x h =
       let ps = expr_pieces names x level.Expression in
-      let most = at_most (signs_in ps) SIGNS (and_is (has_literals x) (nat_le (signs_in ps) SIGNS) h).1 in
+      let most = leb-true (signs_in ps) SIGNS (and_is (has_literals x) (nat_le (signs_in ps) SIGNS) h).1 in
       count_as src (Within b n 0) (Within b n 0) (Within b n (0 + signs_in ps)) (Here b n) NoChoice ps (λ c w. w) (here b n (0 + signs_in ps)) (pieces_counted src b n ps (expr_over x level.Expression) 0 (omega arith))

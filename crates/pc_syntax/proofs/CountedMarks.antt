@@ -1,5 +1,6 @@
 -- The counts over single marks.
 use Rattle.std.proofs.Common.{◌≡◌, ℕ, ◌+◌, ◌-◌, ◌<◌, refl, ap, arith, [], ◌∷◌, true, false, Ok}
+use Rattle.std.proofs.lemmas.Bool.{lt-ltb}
 use Rattle.pc_text.specs.Bytes.{Bytes}
 use Rattle.pc_grammar.specs.declared.symbol.Symbol.{Symbol}
 use Rattle.pc_grammar.specs.declared.symbol.Terminal.{Terminal}
@@ -10,7 +11,7 @@ use Rattle.pc_grammar.specs.Combinators.{Text}
 use Rattle.pc_grammar.specs.Limits.{counted}
 use Rattle.pc_syntax.specs.Pieces.{Mark, Name}
 use Rattle.pc_syntax.proofs.CountedPieces.{Anything, Count, count_mark, count_name}
-use Rattle.pc_syntax.proofs.CountedExprs.{Within, Here, room}
+use Rattle.pc_syntax.proofs.CountedExprs.{Within, Here}
 
 -- only the open braces are known
 abbrev pub Braces : ℕ → Counts → Type 0
@@ -91,14 +92,14 @@ module _ (src : Bytes) (b : ℕ) where
   pub one_and : (n : ℕ) → n < COMPARISONS - 1 → Count src (Mark terminal.And ∷ []) (Here b n) (Within b (n + 1) 0) Anything
   one_and n l = count_mark src terminal.And (Here b n) (Within b (n + 1) 0) Anything (λ c s r p e k. record {
     after = record { braces = c.braces; signs = 0; ands = c.ands + 1; behind_keyword = false };
-    runs = rw (e, p.ands_are, room n (COMPARISONS - 1) l) refl;
+    runs = rw (e, p.ands_are, lt-ltb n (COMPARISONS - 1) l) refl;
     holds = record { braces_are = p.braces_are; ands_are = ap (λ (m : ℕ). m + 1) p.ands_are; signs_are = refl; behind_none = refl };
   })
 
   pub open_brace : b < BRACES → Count src (Mark terminal.OpenBrace ∷ []) (Braces b) (Braces (b + 1)) Anything
   open_brace l = count_mark src terminal.OpenBrace (Braces b) (Braces (b + 1)) Anything (λ c s r p e k. record {
     after = record { braces = c.braces + 1; signs = 0; ands = c.ands; behind_keyword = false };
-    runs = rw (e, p, room b BRACES l) refl;
+    runs = rw (e, p, lt-ltb b BRACES l) refl;
     holds = ap (λ (m : ℕ). m + 1) p;
   })
 

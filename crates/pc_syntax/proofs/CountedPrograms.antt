@@ -2,6 +2,7 @@
 use Rattle.std.proofs.Common.{◌≡◌, ℕ, ◌+◌, refl, arith, List, [], ◌∷◌, ◌++◌, length, take, drop, true}
 use Rattle.std.specs.Prelude.{nat_le}
 use Rattle.std.specs.List.{list_all}
+use Rattle.std.proofs.lemmas.Bool.{leb-true}
 use Rattle.pc_text.specs.Bytes.{Bytes}
 use Rattle.pc_text.specs.Named.{Named}
 use Rattle.pc_rows.specs.declared.row.TheConstants.{VARIABLES}
@@ -17,7 +18,6 @@ use Rattle.pc_syntax.specs.Sane.{sane_stmts, is_sane}
 use Rattle.pc_syntax.specs.Showable.{is_name, all_differ, shown_stmts, nesting_of, is_showable}
 use Rattle.pc_syntax.proofs.Results.{and_is}
 use Rattle.pc_syntax.proofs.CountedPieces.{Anything, Count, count_none, count_then, count_as}
-use Rattle.pc_syntax.proofs.CountedExprs.{at_most}
 use Rattle.pc_syntax.proofs.CountedMarks.{Braces, Keyword, closed, keyword, name_closed, open_brace, close_brace}
 use Rattle.pc_syntax.proofs.CountedStmts.{opened_counted, semicolon, stmts_counted}
 
@@ -57,6 +57,6 @@ shown_within src names body sane shown u h =
     let a = and_is (list_all is_name names.names) _ shown in
     let b = and_is (all_differ names.names) _ a.1 in
     let c = and_is (shown_stmts names.names body) (nat_le (1 + nesting_of body) BRACES) b.1 in
-    let d = stmts_counted src names.names body r.0 c.0 1 (at_most (1 + nesting_of body) BRACES c.1) 2 in
+    let d = stmts_counted src names.names body r.0 c.0 1 (leb-true (1 + nesting_of body) BRACES c.1) 2 in
     let x = program_counted src names body d limits.start refl u [] h tt in
     (x.after, x.runs)

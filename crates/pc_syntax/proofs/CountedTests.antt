@@ -2,6 +2,7 @@
 use Rattle.std.proofs.Common.{◌≡◌, ℕ, suc, ◌+◌, ◌<◌, ◌≤◌, refl, ap, arith, pos, negsuc, List, [], ◌∷◌, ◌++◌, length, true, false, Option, Some, None}
 use Rattle.std.specs.Prelude.{nat_le}
 use Rattle.std.specs.List.{list_all}
+use Rattle.std.proofs.lemmas.Bool.{leb-true}
 use Rattle.pc_text.specs.Bytes.{Bytes}
 use Rattle.pc_grammar.specs.declared.symbol.Terminal.TheVariants as terminal
 use Rattle.pc_grammar.specs.declared.limits.TheConstants.{COMPARISONS}
@@ -24,7 +25,7 @@ use Rattle.pc_syntax.specs.Sane.{sane_all, sane_test}
 use Rattle.pc_syntax.specs.Showable.{shown_expr, shown_compare, shown_test}
 use Rattle.pc_syntax.proofs.Results.{and_is}
 use Rattle.pc_syntax.proofs.CountedPieces.{Anything, NoChoice, Count, count_none, count_both, count_then, count_mark, count_as, next_mark}
-use Rattle.pc_syntax.proofs.CountedExprs.{Within, Here, here, at_most, pieces_counted, expr_counted}
+use Rattle.pc_syntax.proofs.CountedExprs.{Within, Here, here, pieces_counted, expr_counted}
 use Rattle.pc_syntax.proofs.CountedMarks.{Braces, Resets, reset, one_and, any_test}
 
 -- ---- comparisons
@@ -76,7 +77,7 @@ module _ (src : Bytes) (names : List Bytes) (b : ℕ) where
 
   pub conjunction_counted : (n : ℕ) (cs : List Compare) → sane_all n cs ≡ true → list_all (shown_compare names) cs ≡ true → Count src (all_pieces names cs) (Within b 0 0) (Braces b) NoChoice
   conjunction_counted n [] s h = absurd (cc)
-  conjunction_counted n (c ∷ cs) s h = all_counted c cs h (at_most (length (c ∷ cs)) COMPARISONS (and_is (nat_le (length (c ∷ cs)) COMPARISONS) _ s).0)
+  conjunction_counted n (c ∷ cs) s h = all_counted c cs h (leb-true (length (c ∷ cs)) COMPARISONS (and_is (nat_le (length (c ∷ cs)) COMPARISONS) _ s).0)
 
   pub test_counted : (n : ℕ) (t : Test) → sane_test n t ≡ true → shown_test names t ≡ true → Count src (test_pieces names t) (Within b 0 0) (Braces b) NoChoice
   test_counted n test.Any s h = λ c p u v i f. any_test src b c p u v i tt

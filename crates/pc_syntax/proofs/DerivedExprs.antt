@@ -1,7 +1,7 @@
 -- The symbols of an expression's pieces derive a tree, of which the walk makes the expression again.
 use Rattle.std.proofs.Common.{◌≡◌, ℕ, ◌+◌, ◌<◌, refl, sym, ◌∙◌, ap, arith, subst, ℤ, negsuc, List, [], ◌∷◌, ◌++◌, length, Bool, true, Option, Some, None, Result, Ok}
-use Rattle.std.specs.Prelude.{◌&&◌, nat_lt}
-use Rattle.std.proofs.lemmas.Bool.Decides.{nat_tests}
+use Rattle.std.specs.Prelude.{◌&&◌}
+use Rattle.std.proofs.lemmas.Bool.{ltb-true}
 use Rattle.std.proofs.lemmas.Option.{slice_get-get_or}
 use Rattle.pc_text.specs.Bytes.{Bytes}
 use Rattle.pc_text.specs.declared.place.Place.{Place}
@@ -52,9 +52,6 @@ behind_mark src t ps (s ∷ u) (e, h) = record { symbol = s; rest = u; split = r
 -- a name has its number
 pub numbered : (names : List Bytes) → AreDistinct names → (v : ℕ) → v < length names → number_of names (name_at names v) ≡ Some v
 numbered names distinct v h = distinct v (name_at names v) (slice_get-get_or names v [] h)
-
-pub below : (a b : ℕ) → nat_lt a b ≡ true → a < b
-below a b h = grind (arith, nat_tests)
 
 module _ (src : Bytes) (P : Lang ExprTree) where
   number_derives : (z : ℤ) (Q : ExprTree → Type 0) → Q (tree.Num z) → Derive src (Number z ∷ []) (grammar.is_atom P) Q
@@ -125,7 +122,7 @@ module _ (src : Bytes) (names : List Bytes) (distinct : AreDistinct names) where
   name_case : (v : ℕ) → Claim (roll-Expr (expr.Name v))
   name_case v f h k l =
       let form : variable v ≡ f = cc (sym (fold-roll-Expr (Result Linear AffineFault) form_step (expr.Name v)) ∙ h) in
-      let few = below v (length names) (sym (fold-roll-Expr Bool (below_step (length names)) (expr.Name v)) ∙ k) in
+      let few = ltb-true v (length names) (sym (fold-roll-Expr Bool (below_step (length names)) (expr.Name v)) ∙ k) in
       rw (expr_laid names (expr.Name v) l, fold-roll-Expr Expr bare_expr_step (expr.Name v), ← form)
       (atom_at src (IsExpr src names (e.Name v) (variable v)) (Name (name_at names v) ∷ [])
       (0, λ n i. name_derives src (grammar.is_paren n) (name_at names v) _ (λ s w. name_again src names s v (ap (number_of names) w ∙ numbered names distinct v few))) l)

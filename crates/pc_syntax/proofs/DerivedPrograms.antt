@@ -1,7 +1,7 @@
 -- The symbols of a program's pieces derive a tree, of which the walk makes the program again.
 use Rattle.std.proofs.Common.{◌≡◌, ℕ, ◌≤◌, refl, sym, ◌∙◌, ap, arith, List, [], ◌∷◌, ◌++◌, length, length-append, length-take-le, take-append-drop, map, sum, take, drop, true, Ok}
 use Rattle.std.specs.Prelude.{nat_le}
-use Rattle.std.proofs.lemmas.Bool.Decides.{nat_tests}
+use Rattle.std.proofs.lemmas.Bool.{leb-true}
 use Rattle.std.proofs.lemmas.List.{length-map}
 use Rattle.pc_text.specs.Bytes.{Bytes}
 use Rattle.pc_text.specs.Named.{Named}
@@ -33,9 +33,6 @@ pub record IsProgram (src : Bytes) (names : Named) (body : List Stmt) (t : Progr
   pub walked : checked src t ≡ Ok content
   pub named : content.names ≡ names
   pub same : bare content.body ≡ bare body
-
-at_most : (a b : ℕ) → nat_le a b ≡ true → a ≤ b
-at_most a b h = grind (arith, nat_tests)
 
 -- what holds of the parts of a tree
 record Parts (src : Bytes) (names : Named) (body : List Stmt) (t : ProgramTree) : Type 0 where
@@ -105,5 +102,5 @@ shown_program src names body sane differ u h =
     record {
       tree = t.tree;
       derives = (d.0, t.derives);
-      again = program_again src names body t.tree (at_most names.params (length names.names) p.0) (at_most (length names.names) VARIABLES q.0) differ (at_most (edges_of body) EDGES r.1) t.holds;
+      again = program_again src names body t.tree (leb-true names.params (length names.names) p.0) (leb-true (length names.names) VARIABLES q.0) differ (leb-true (edges_of body) EDGES r.1) t.holds;
     }

@@ -3,6 +3,7 @@ use Rattle.std.proofs.Common.{◌≡◌, ℕ, zero, suc, ◌+◌, ◌≤◌, ref
 use Rattle.std.specs.Prelude.{◌&&◌, nat_lt}
 use Rattle.std.specs.List.{AllByRecursion}
 use Rattle.std.proofs.lemmas.List.Sums.{sum-map, sum_by-cons}
+use Rattle.std.proofs.lemmas.Bool.{ltb-true}
 use Rattle.pc_text.specs.Bytes.{Bytes}
 use Rattle.pc_text.specs.declared.place.Place.{Place}
 use Rattle.pc_text.specs.Named.{number_of, AreDistinct}
@@ -25,7 +26,7 @@ use Rattle.pc_syntax.proofs.Results.{and_is}
 use Rattle.pc_syntax.proofs.Stmts.{by_stmt, all_by}
 use Rattle.pc_syntax.proofs.Laid.{stmt_laid}
 use Rattle.pc_syntax.proofs.Derived.{Derive, Derivable, Front, derive_as, derive_one, derive_nil, derive_cons, derive_between, derive_missing, derive_after}
-use Rattle.pc_syntax.proofs.DerivedExprs.{numbered, below}
+use Rattle.pc_syntax.proofs.DerivedExprs.{numbered}
 use Rattle.pc_syntax.proofs.ComparesAgain.{AreCompares, IsTest, none_again}
 use Rattle.pc_syntax.proofs.DerivedTests.{shown_conjunction, shown_test}
 use Rattle.pc_syntax.proofs.DerivedRights.{IsRight, shown_right}
@@ -85,7 +86,7 @@ module _ (src : Bytes) (names : List Bytes) (distinct : AreDistinct names) where
   set_case : (p : Place) (v : ℕ) (r : Right) → Claim (roll-Stmt (stmt.Set p v r))
   set_case p v r h m =
       let k = and_is (nat_lt v (length names)) (sane_right (length names) r) (sym (fold-roll-Stmt Bool (sane_step (length names)) (stmt.Set p v r)) ∙ h) in
-      let named = numbered names distinct v (below v (length names) k.0) in
+      let named = numbered names distinct v (ltb-true v (length names) k.0) in
       let d = shown_right src names distinct r k.1 in
       rw (stmt_laid names (stmt.Set p v r) m, fold-roll-Stmt Stmt bare_stmt_step (stmt.Set p v r), fold-roll-Stmt ℕ edges_step (stmt.Set p v r)) (
         d.0,

@@ -3,7 +3,7 @@ use Rattle.std.proofs.Common.{◌≡◌, ℕ, zero, suc, ◌<◌, ℤ, pos, negs
 use Rattle.std.specs.Prelude.{◌&&◌, IfOk, nat_lt, is_ok}
 use Rattle.std.specs.List.{list_all}
 use Rattle.std.proofs.lemmas.Int.{ints}
-use Rattle.std.proofs.lemmas.Bool.Decides.{nat_tests}
+use Rattle.std.proofs.lemmas.Bool.{ltb-true}
 use Rattle.std.proofs.Math.IntN.{zero-*ℤ}
 use Rattle.pc_text.specs.declared.place.Place.{Place}
 use Rattle.pc_rows.specs.Linear.{Linear, value, sum_of, scaled_by, negate_list, add_lists, scale_list, of_constant, in_range, is_in_range, difference_of, above_of, is_number, fits}
@@ -82,13 +82,10 @@ number_forms n h = record {
 
 variable_forms : (v : ℕ) → nat_lt v VARIABLES ≡ true → Forms (λ s. get_or s v (pos 0)) (variable v)
 variable_forms v h = record {
-  worth = λ s. variable_value v s (below v VARIABLES h);
+  worth = λ s. variable_value v s (ltb-true v VARIABLES h);
   in_range = all_set (of_constant (pos 0)).coefficients v (pos 1) refl refl;
   wide = length-set (of_constant (pos 0)).coefficients v (pos 1);
 }
-  where
-    below : (a b : ℕ) → nat_lt a b ≡ true → a < b
-    below a b e = grind (arith, nat_tests)
 
 -- a row that fits has its form
 fits_forms : (w : State → ℤ) (p : Place) (r : Linear) → ((s : State) → value r s ≡ w s) → length r.coefficients ≡ VARIABLES → IfOk (fits (Past p) r) (Forms w)

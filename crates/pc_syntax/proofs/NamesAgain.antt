@@ -1,7 +1,7 @@
 -- The symbols of the pieces of names derive them, and the walk declares them again.
-use Rattle.std.proofs.Common.{◌≡◌, ℕ, ◌+◌, ◌<◌, ◌≤◌, refl, sym, ◌∙◌, ap, subst, arith, List, [], ◌∷◌, ◌++◌, append_assoc, length, length-append, map, true, Option, Some, None, Ok}
-use Rattle.std.specs.Prelude.{not, is_some, nat_lt}
-use Rattle.std.proofs.lemmas.Bool.Decides.{nat_tests}
+use Rattle.std.proofs.Common.{◌≡◌, ◌+◌, ◌≤◌, refl, sym, ◌∙◌, ap, subst, arith, List, [], ◌∷◌, ◌++◌, append_assoc, length, length-append, map, true, Option, Some, None, Ok}
+use Rattle.std.specs.Prelude.{not, is_some}
+use Rattle.std.proofs.lemmas.Bool.{lt-ltb}
 use Rattle.pc_text.specs.Bytes.{Bytes}
 use Rattle.pc_text.specs.Named.{number_of, AreDistinct}
 use Rattle.pc_text.proofs.NameLemmas.{distinct_more, distinct_none}
@@ -46,9 +46,6 @@ differ_parts before (w ∷ us) vs h =
 
 -- ---- their declaration
 
-room : (a b : ℕ) → a < b → nat_lt a b ≡ true
-room a b h = grind (arith, nat_tests)
-
 module _ (src : Bytes) where
   pub declared_again : (before ws : List Bytes) (xs : List Symbol) → map (word src) xs ≡ ws → differ_after before ws ≡ true → length before + length ws ≤ VARIABLES →
       declared_after src before xs ≡ Ok (before ++ ws)
@@ -61,7 +58,7 @@ module _ (src : Bytes) where
       let others : map (word src) xs ≡ ws = cc in
       let fresh = not_some (number_of before w) p.0 in
       let n = length-append before (w ∷ []) in
-      rw (first, fresh, room (length before) VARIABLES (omega arith)) (declared_again (before ++ w ∷ []) ws xs others p.1 (omega arith) ∙ ap Ok (append_assoc before (w ∷ []) ws))
+      rw (first, fresh, lt-ltb (length before) VARIABLES (omega arith)) (declared_again (before ++ w ∷ []) ws xs others p.1 (omega arith) ∙ ap Ok (append_assoc before (w ∷ []) ws))
 
   -- ---- their symbols
 

@@ -1,7 +1,7 @@
 -- How many braces are open in phrases of blocks.
 use Rattle.std.proofs.Common.{◌≡◌, ℕ, zero, suc, ◌+◌, ◌-◌, ◌≤◌, ◌<◌, refl, sym, ◌∙◌, arith, [], ◌∷◌, Bool, true, false, cond, Some, None}
 use Rattle.std.specs.Prelude.{◌&&◌, nat_lt, max}
-use Rattle.std.proofs.lemmas.Bool.Decides.{nat_tests}
+use Rattle.std.proofs.lemmas.Bool.{ltb-true}
 use Rattle.pc_grammar.specs.declared.symbol.Symbol.{Symbol}
 use Rattle.pc_grammar.specs.declared.symbol.Terminal.{Terminal}
 use Rattle.pc_grammar.specs.declared.symbol.Terminal.TheVariants as terminal
@@ -21,10 +21,7 @@ pub opening : (n m : ℕ) (k : Terminal) → has (terminal.OpenBrace ∷ []) k �
 opening n m terminal.OpenBrace h e = by (nat_lt n BRACES) refl e
   where
     by : (b : Bool) → nat_lt n BRACES ≡ b → cond b (Some (n + 1)) None ≡ Some m → Opens n m
-    by true g e = let f : n + 1 ≡ m = cc in record { sum = sym f; room = below n BRACES g }
-      where
-        below : (a b : ℕ) → nat_lt a b ≡ true → a < b
-        below a b h = grind (arith, nat_tests)
+    by true g e = let f : n + 1 ≡ m = cc in record { sum = sym f; room = ltb-true n BRACES g }
     by false g e = absurd (cc)
 opening n m k h e = absurd (cc)
 

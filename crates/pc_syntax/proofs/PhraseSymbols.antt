@@ -2,7 +2,7 @@
 use Rattle.std.proofs.Common.{◌≡◌, ℕ, zero, suc, ◌+◌, ◌-◌, ◌<◌, ◌≤◌, refl, ◌∙◌, ap, arith, List, [], ◌∷◌, ◌++◌, length, Bool, true, false, cond, Option, Some, None, Result, Ok, Err}
 use Rattle.std.specs.Prelude.{nat_lt}
 use Rattle.std.specs.List.{list_all}
-use Rattle.std.proofs.lemmas.Bool.Decides.{nat_tests}
+use Rattle.std.proofs.lemmas.Bool.{ltb-true}
 use Rattle.pc_grammar.specs.declared.symbol.Symbol.{Symbol}
 use Rattle.pc_grammar.specs.declared.symbol.Terminal.{Terminal}
 use Rattle.pc_grammar.specs.declared.symbol.Terminal.TheVariants as terminal
@@ -90,10 +90,7 @@ pub record Counts_on (n m a : ℕ) : Type 0 where
   pub most : 0 < a → m < COMPARISONS
 
 one_on : (n m : ℕ) (b : Bool) → nat_lt n (COMPARISONS - 1) ≡ b → cond b (Some (n + 1)) None ≡ Some m → Counts_on n m 1
-one_on n m true h e = let f : n + 1 ≡ m = cc in let g = below n (COMPARISONS - 1) h in record { sum = omega arith; most = λ k. omega arith }
-  where
-    below : (a b : ℕ) → nat_lt a b ≡ true → a < b
-    below a b h = grind (arith, nat_tests)
+one_on n m true h e = let f : n + 1 ≡ m = cc in let g = ltb-true n (COMPARISONS - 1) h in record { sum = omega arith; most = λ k. omega arith }
 one_on n m false h e = absurd (cc)
 
 none_on : (n m : ℕ) (b : Bool) → b ≡ false → cond b (Some 0) (Some n) ≡ Some m → Counts_on n m 0

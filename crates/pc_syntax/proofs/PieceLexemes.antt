@@ -1,5 +1,5 @@
 -- Pieces of a text are its longest lexemes, where each stands apart from the next.
-use Rattle.std.proofs.Common.{◌≡◌, ◌≤◌, ◌<◌, ℕ, zero, suc, ◌+◌, ◌-◌, ℤ, pos, negsuc, Bool, true, false, cond, nat_eq, nat_lt, nat_le, List, [], ◌∷◌, ◌++◌, length, take, drop, map, replicate, Option, Some, None, Ok, refl, sym, ap, ◌∙◌, subst, arith, codes, append_assoc, inl, inr}
+use Rattle.std.proofs.Common.{◌≡◌, ◌≤◌, ℕ, zero, suc, ◌+◌, ℤ, pos, negsuc, Bool, true, false, cond, nat_eq, nat_le, List, [], ◌∷◌, ◌++◌, length, map, replicate, Some, refl, sym, ap, ◌∙◌, subst, arith, codes, append_assoc, inl, inr}
 use Rattle.std.specs.Prelude.{◌&&◌, ◌==◌, not}
 use Rattle.std.specs.Int.Digits.{digits_of}
 use Rattle.std.specs.List.{list_all}
@@ -13,15 +13,15 @@ use Rattle.pc_text.specs.declared.token.TheConstants.{LARGEST, NAME_BYTES}
 use Rattle.pc_text.specs.Bytes.{Bytes}
 use Rattle.pc_text.specs.Digits.{natural_of}
 use Rattle.pc_text.specs.Numerals.{numeral, IsNumeral, integer_of}
-use Rattle.pc_text.specs.Lexemes.{class, in_word, in_number, is_letter_or_digit, is_digit, is_keyword, EachPasses, HasForm, Lexeme, IsLongest, Leads, IsSplit, Fits, AllFit}
-use Rattle.pc_text.specs.Longest.{run, longest, longest_by, pair_or}
+use Rattle.pc_text.specs.Lexemes.{class, in_word, in_number, is_letter_or_digit, is_digit, is_keyword, EachPasses, HasForm, Lexeme, Leads, IsSplit, Fits, AllFit}
+use Rattle.pc_text.specs.Longest.{run, longest, pair_or}
 use Rattle.pc_text.proofs.LongestLemmas.{AtLeast, bounds, lexeme}
 use Rattle.pc_text.proofs.NumeralTexts.{numeral_is, integer_numeral}
 use Rattle.pc_grammar.specs.declared.symbol.Terminal.{Terminal}
 use Rattle.pc_grammar.specs.declared.symbol.Terminal.TheVariants as terminal
 use Rattle.pc_rows.specs.Linear.{in_range}
 use Rattle.pc_syntax.specs.Pieces.{Piece, Blank, LineEnd, Mark, Name, Number, blanks, spelling, spelled, bytes_of}
-use Rattle.pc_syntax.specs.Showable.{is_letter, is_word, is_name, is_natural, is_literal}
+use Rattle.pc_syntax.specs.Showable.{is_letter, is_word, is_name, is_literal}
 use Rattle.pc_syntax.proofs.Results.{and_is}
 
 -- ---- what stands behind a piece

@@ -1,19 +1,16 @@
 -- The tokens of pieces are their symbols.
-use Rattle.std.proofs.Common.{◌≡◌, ℕ, zero, suc, ◌+◌, ◌-◌, take, drop, ℤ, pos, Bool, true, false, cond, List, [], ◌∷◌, ◌++◌, length, map, replicate, Option, Some, None, Ok, refl, sym, ap, ◌∙◌, subst, arith, codes, append_assoc, append-nil, length-append}
+use Rattle.std.proofs.Common.{◌≡◌, ℕ, zero, suc, ◌+◌, ◌-◌, take, drop, true, false, cond, List, [], ◌∷◌, ◌++◌, length, replicate, Option, Some, Ok, refl, sym, ap, ◌∙◌, subst, arith, append_assoc, append-nil, length-append}
 use Rattle.std.specs.Prelude.{slice_range}
 use Rattle.std.proofs.lemmas.List.{take_at, drop_at}
-use Rattle.pc_text.specs.declared.lexeme.Form.{Form}
 use Rattle.pc_text.specs.declared.lexeme.Form.TheVariants as form
 use Rattle.pc_text.specs.declared.token.Kind.{Kind}
 use Rattle.pc_text.specs.declared.token.Kind.TheVariants as kind
 use Rattle.pc_text.specs.declared.token.Token.{Token}
 use Rattle.pc_text.specs.Bytes.{Bytes}
-use Rattle.pc_text.specs.Digits.{natural_of}
-use Rattle.pc_text.specs.Numerals.{numeral}
 use Rattle.pc_text.specs.Answers.{Means}
-use Rattle.pc_text.specs.Lexemes.{is_keyword, word_kind, kind_of, Lexeme, IsSplit, with_token, tokens_from}
+use Rattle.pc_text.specs.Lexemes.{is_keyword, kind_of, Lexeme, IsSplit, with_token, tokens_from}
 use Rattle.pc_text.proofs.LongestLemmas.{lexeme}
-use Rattle.pc_grammar.specs.Symbols.{keyword_of, byte_sign, pair_sign, terminal_of, symbol_of, symbols_of}
+use Rattle.pc_grammar.specs.Symbols.{keyword_of, byte_sign, pair_sign, terminal_of, symbols_of}
 use Rattle.pc_grammar.specs.declared.symbol.Terminal.{Terminal}
 use Rattle.pc_grammar.specs.declared.symbol.Terminal.TheVariants as terminal
 use Rattle.pc_syntax.specs.Pieces.{Piece, Blank, LineEnd, Mark, Name, Number, blanks, spelling, spelled, bytes_of}

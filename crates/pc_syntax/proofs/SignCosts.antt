@@ -2,7 +2,7 @@
 use Rattle.std.proofs.Common.{◌≡◌, ℕ, zero, suc, ◌+◌, ◌<◌, ◌≤◌, refl, ap, sym, ◌∙◌, arith, [], ◌∷◌, ◌++◌, append_assoc, Bool, true, false, cond, Option, Some, None, Result, Ok, Err}
 use Rattle.std.specs.Prelude.{nat_lt}
 use Rattle.std.specs.List.{list_all}
-use Rattle.std.proofs.lemmas.Bool.Decides.{nat_tests}
+use Rattle.std.proofs.lemmas.Bool.{ltb-true}
 use Rattle.pc_grammar.specs.declared.symbol.Symbol.{Symbol}
 use Rattle.pc_grammar.specs.declared.symbol.Terminal.{Terminal}
 use Rattle.pc_grammar.specs.declared.limits.Counts.{Counts}
@@ -41,10 +41,7 @@ pub record CountsSigns (n m a : ℕ) : Type 0 where
   pub most : 0 < a → m ≤ SIGNS
 
 one_sign : (n m : ℕ) (b : Bool) → nat_lt n SIGNS ≡ b → cond b (Some (n + 1)) None ≡ Some m → CountsSigns n m 1
-one_sign n m true h e = let f : n + 1 ≡ m = cc in let g = below n SIGNS h in record { sum = omega arith; most = λ k. omega arith }
-  where
-    below : (a b : ℕ) → nat_lt a b ≡ true → a < b
-    below a b h = grind (arith, nat_tests)
+one_sign n m true h e = let f : n + 1 ≡ m = cc in let g = ltb-true n SIGNS h in record { sum = omega arith; most = λ k. omega arith }
 one_sign n m false h e = absurd (cc)
 
 step_signs : (n m : ℕ) (sign : Bool) (t : Terminal) → has of_expressions t ≡ true → signs_after n sign t ≡ Some m → CountsSigns n m (weight_if sign)

@@ -1,7 +1,6 @@
 -- What the walk makes of the trees of statements: the same statements apart from places, with as many edges.
 use Rattle.std.proofs.Common.{◌≡◌, ℕ, ◌+◌, ◌≤◌, refl, sym, ◌∙◌, ap, arith, List, [], ◌∷◌, false, Some, Ok}
-use Rattle.std.specs.Prelude.{nat_lt}
-use Rattle.std.proofs.lemmas.Bool.Decides.{nat_tests}
+use Rattle.std.proofs.lemmas.Bool.{le-ltb}
 use Rattle.pc_text.specs.Bytes.{Bytes}
 use Rattle.pc_text.specs.declared.place.Place.{Place}
 use Rattle.pc_text.specs.Named.{number_of}
@@ -27,10 +26,7 @@ use Rattle.pc_syntax.proofs.DerivedRights.{IsRight}
 
 -- edges that the limit leaves room for are counted
 counted_stands : (n : ℕ) (p : Place) (k : ℕ) → k + n ≤ EDGES → walk.counted n p k ≡ Ok (k + n)
-counted_stands n p k h = rw (room EDGES (k + n) h) refl
-  where
-    room : (a b : ℕ) → b ≤ a → nat_lt a b ≡ false
-    room a b h = grind (arith, nat_tests)
+counted_stands n p k h = rw (le-ltb EDGES (k + n) h) refl
 
 module _ (src : Bytes) (names : List Bytes) where
   -- the walk makes of a tree, after so many edges, a statement which is this one without its places, and counts n edges of it

@@ -2,7 +2,7 @@
 use Rattle.std.proofs.Common.{◌≡◌, ℕ, ◌+◌, ◌<◌, ◌≤◌, ℤ, negsuc, ◌∙◌, ap, arith, List, [], ◌∷◌, length, Bool, true, false, cond, Option, Some, None, Result, Ok, Err}
 use Rattle.std.specs.Prelude.{◌&&◌, IfOk, IfSome, nat_lt, is_ok, option_map}
 use Rattle.std.specs.Str.{bytes_eq}
-use Rattle.std.proofs.lemmas.Bool.Decides.{nat_tests}
+use Rattle.std.proofs.lemmas.Bool.{lt-ltb}
 use Rattle.pc_text.specs.declared.place.Place.{Place}
 use Rattle.pc_rows.specs.Linear.{Linear, sum_of, difference_of, scaled_by, of_constant, in_range, fits}
 use Rattle.pc_rows.specs.declared.row.TheConstants.{VARIABLES}
@@ -38,9 +38,6 @@ number_below (name ∷ names) w = by (bytes_eq name w) (number_of names w) (numb
     by false None h = tt
     by false (Some v) h = omega arith
 
-below_test : (a b : ℕ) → a < b → nat_lt a b ≡ true
-below_test a b h = grind (arith, nat_tests)
-
 resolved_below : (src : Bytes) (names : List Bytes) (s : Symbol) → IfOk (resolved src names s) (λ v. v < length names)
 resolved_below src names s = by (number_of names (word src s)) (number_below names (word src s))
   where
@@ -52,7 +49,7 @@ pub resolved_test : (src : Bytes) (names : List Bytes) (s : Symbol) → IfOk (re
 resolved_test src names s = by (resolved src names s) (resolved_below src names s)
   where
     by : (r : Result ℕ SourceFault) → IfOk r (λ v. v < length names) → IfOk r (λ v. nat_lt v (length names) ≡ true)
-    by (Ok v) h = below_test v (length names) h
+    by (Ok v) h = lt-ltb v (length names) h
     by (Err e) h = tt
 
 -- ---- expressions
@@ -121,9 +118,9 @@ number_formed n z h = record {
 
 name_formed : (n : ℕ) → n ≤ VARIABLES → (v : ℕ) → v < n → IsFormed n (record { expr = e.Name v; form = variable v })
 name_formed n few v h = record {
-  fit = fold-name Bool fit_step v ∙ below_test v VARIABLES (omega arith);
+  fit = fold-name Bool fit_step v ∙ lt-ltb v VARIABLES (omega arith);
   found = fold-name (Result Linear AffineFault) form_step v;
-  below = fold-name Bool (below_step n) v ∙ below_test v n h;
+  below = fold-name Bool (below_step n) v ∙ lt-ltb v n h;
 }
 
 module _ (src : Bytes) (names : List Bytes) (few : length names ≤ VARIABLES) (n : ℕ) where

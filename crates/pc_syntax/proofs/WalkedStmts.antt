@@ -3,7 +3,7 @@ use Rattle.std.proofs.Common.{◌≡◌, ℕ, ◌+◌, ◌≤◌, refl, sym, ◌
 use Rattle.std.specs.Prelude.{◌&&◌, IfOk, nat_lt, nat_le, is_some}
 use Rattle.std.specs.List.{AllByRecursion, list_all}
 use Rattle.std.proofs.lemmas.List.Sums.{sum-map, sum_by-cons}
-use Rattle.std.proofs.lemmas.Bool.Decides.{nat_tests}
+use Rattle.std.proofs.lemmas.Bool.{ltb-true, ltb-false}
 use Rattle.pc_text.specs.declared.place.Place.{Place}
 use Rattle.pc_rows.specs.declared.row.TheConstants.{VARIABLES}
 use Rattle.pc_grammar.specs.declared.symbol.Symbol.{Symbol}
@@ -46,10 +46,7 @@ counted_adds n p k = by (nat_lt EDGES (k + n)) refl
   where
     by : (b : Bool) → nat_lt EDGES (k + n) ≡ b → IfOk {T = ℕ} {E = SourceFault} (cond b (Err (fault.TooManyEdges p)) (Ok (k + n))) (Adds n k)
     by true e = tt
-    by false e = record { sum = refl; within = within_limit EDGES (k + n) e }
-      where
-        within_limit : (a b : ℕ) → nat_lt a b ≡ false → b ≤ a
-        within_limit a b e = grind (arith, nat_tests)
+    by false e = record { sum = refl; within = ltb-false EDGES (k + n) e }
 
 record IsCounted (n k : ℕ) (x : Counted) : Type 0 where
   kept : sane.sane_stmt n x.stmt ≡ true
@@ -206,11 +203,8 @@ declare_counts src names symbol = by (is_some (number_of names (walk.word src sy
     by false false e = tt
     by false true e =
         let l : length (names ++ walk.word src symbol ∷ []) ≡ length names + 1 = simp length-append in
-        let f = room (length names) VARIABLES e in
+        let f = ltb-true (length names) VARIABLES e in
         record { count = l; few = omega arith }
-      where
-        room : (a b : ℕ) → nat_lt a b ≡ true → a + 1 ≤ b
-        room a b e = grind (arith, nat_tests)
 
 declared_counts : (src : Bytes) (names : List Bytes) (symbols : List Symbol) → length names ≤ VARIABLES → IfOk (walk.declared_after src names symbols) (AreDeclared (length names + length symbols))
 declared_counts src names [] few = record { count = omega arith; few = few }

@@ -1,6 +1,5 @@
 -- A canonical text has the tokens of its pieces.
 use Rattle.std.specs.Prelude.{List, Ok}
-use Rattle.pc_text.specs.Bytes.{Bytes}
 use Rattle.pc_text.specs.Answers as tokens
 use Rattle.pc_text.specs.declared.token.Token.{Token}
 use Rattle.pc_grammar.specs.Symbols.{symbols_of}
