@@ -8,11 +8,10 @@ use Rattle.pc_rows.specs.Modest.{IsModest}
 use Rattle.pc_rows.proofs.Farkas.{shown_is_met, refuted_is_not_shown}
 use Rattle.pc_rows.proofs.Values.{value-constant}
 use Rattle.pc_rows.proofs.Adding.{drop_got}
-use Rattle.pc_rows.proofs.Joining.{each_join, each_left, each_right}
-use Rattle.pc_entail.specs.Showing.{question, minus_one, IsShown, AllShown, IsNotFound, SomeNotFound, ShowIs, ShowsAllIs, ContradictoryIs, IsFirmlyShown}
+use Rattle.pc_rows.proofs.Joining.{each_left, each_right}
+use Rattle.pc_entail.specs.Showing.{question, minus_one, IsShown, AllShown, IsNotFound, SomeNotFound, ShowIs, ContradictoryIs}
 use Rattle.pc_entail.specs.Laws.{ShownRowsAreMet}
-use Rattle.pc_entail.specs.Steps.{FailsToShow, GoesIs}
-use Rattle.pc_entail.proofs.Firm.{all_go}
+use Rattle.pc_entail.specs.Steps.{FailsToShow}
 
 pub shown_rows_are_met : ShownRowsAreMet
 shown_rows_are_met rows [] s h m = tt
@@ -48,15 +47,9 @@ not_found_fails rows (goal ∷ goals) (inr h) = λ modest shown. not_found_fails
 
 -- whether a row goes, after those that went before
 
-pub firm_removes : (kept later removed : List Linear) (r : Linear) → AllShown (kept ++ r ∷ later) removed → IsFirmlyShown (kept ++ later) r →
-    AllShown (kept ++ later) (removed ++ r ∷ [])
-firm_removes kept later removed r before firm = each_join (IsShown (kept ++ later)) removed (r ∷ []) (all_go kept later r removed firm before) ((firm.0, firm.1), tt)
-
-pub weak_removes : (stay removed : List Linear) (r : Linear) (found : Result Bool NoMemory) → IsShown stay r → ShowsAllIs stay removed found → GoesIs stay (removed ++ r ∷ []) found
-weak_removes stay removed r (Ok true) shown h = each_join (IsShown stay) removed (r ∷ []) h (shown, tt)
-weak_removes stay removed r (Ok false) shown h = λ modest all. not_found_fails stay removed h
+pub removed_stays : (stay removed : List Linear) (r : Linear) → SomeNotFound stay removed → FailsToShow stay (removed ++ r ∷ [])
+removed_stays stay removed r h modest all = not_found_fails stay removed h
     (each_left (λ q. IsModest (question stay q)) removed (r ∷ []) modest) (each_left (IsShown stay) removed (r ∷ []) all)
-weak_removes stay removed r (Err e) shown h = tt
 
 pub unknown_stays : (stay removed : List Linear) (r : Linear) → IsNotFound stay r → FailsToShow stay (removed ++ r ∷ [])
 unknown_stays stay removed r h modest all = one_fails stay r h

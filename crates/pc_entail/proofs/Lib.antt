@@ -1,9 +1,7 @@
-pub mod Weights
-pub mod Replacing
-pub mod Firm
 pub mod Finding
 pub mod Copying
 pub mod Removing
+pub mod Renewing
 pub mod Reducing
 pub mod Modesty
 pub mod Worked

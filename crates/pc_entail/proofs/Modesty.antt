@@ -1,17 +1,16 @@
 -- Of rows that are modest together, each question that arises is modest.
-use Rattle.std.proofs.Common.{◌≡◌, ℕ, zero, suc, ◌+◌, ◌≤◌, pos, refl, arith, List, [], ◌∷◌, ◌++◌, length, length-append, Bool, true, false, cond, inl, inr}
+use Rattle.std.proofs.Common.{◌≡◌, ℕ, zero, suc, ◌+◌, ◌≤◌, ℤ, pos, neg_ℤ, get_or, refl, arith, List, [], ◌∷◌, ◌++◌, length, length-append, Bool, true, false, cond, inl, inr}
 use Rattle.std.specs.Prelude.{◌||◌, not}
 use Rattle.std.specs.List.{AllByRecursion}
 use Rattle.pc_rows.specs.declared.row.TheConstants.{VARIABLES}
 use Rattle.pc_rows.specs.declared.system.TheConstants.{MODEST_ROWS, MODEST_NUMBER}
-use Rattle.pc_rows.specs.Linear.{Linear, coefficient, is_zero, negation}
+use Rattle.pc_rows.specs.Linear.{Linear, coefficient, is_zero, negate_list, negation}
 use Rattle.pc_rows.specs.Bounds.{Within, AllWithin}
 use Rattle.pc_rows.specs.Modest.{occurs, occurring, IsModest}
 use Rattle.pc_rows.proofs.Joining.{each_join}
 use Rattle.pc_rows.proofs.Lists.{zero_is}
 use Rattle.pc_entail.specs.Showing.{question}
 use Rattle.pc_entail.specs.Reduction.{Reduces, Thins, Thinned, Reduced, AllModest, AreModest}
-use Rattle.pc_entail.proofs.Weights.{negated_coefficient}
 
 -- a row has only variables that the rows have
 abbrev HasNoOther : List Linear → Linear → Type 0
@@ -41,6 +40,14 @@ none_occurs v (r ∷ rows) h =
 occurs_none : (v : ℕ) (rows : List Linear) → AllByRecursion (λ r. coefficient r v ≡ pos 0) rows → occurs v rows ≡ false
 occurs_none v [] h = refl
 occurs_none v (r ∷ rows) h = rw (h.0, occurs_none v rows h.1) refl
+
+get_or-negate_list : (a : List ℤ) (k : ℕ) → get_or (negate_list a) k (pos 0) ≡ neg_ℤ (get_or a k (pos 0))
+get_or-negate_list [] k = refl
+get_or-negate_list (a ∷ as') zero = refl
+get_or-negate_list (a ∷ as') (suc k) = get_or-negate_list as' k
+
+negated_coefficient : (r : Linear) (v : ℕ) → coefficient (negation r) v ≡ neg_ℤ (coefficient r v)
+negated_coefficient r v = get_or-negate_list r.coefficients v
 
 negation_has : (rows : List Linear) (r : Linear) → HasNoOther rows r → HasNoOther rows (negation r)
 negation_has rows r h v none = rw (negated_coefficient r v, h v none) refl

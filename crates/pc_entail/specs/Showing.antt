@@ -1,10 +1,10 @@
 -- Which rows show which.
-use Rattle.std.specs.Prelude.{◌⊎◌, pos, negsuc, neg_ℤ, ◌≤ℤ◌, Bool, true, false, List, [], ◌∷◌, Result, Ok, Err}
+use Rattle.std.specs.Prelude.{◌⊎◌, pos, negsuc, ◌≤ℤ◌, Bool, true, false, List, [], ◌∷◌, Result, Ok, Err}
 use Rattle.std.specs.List.{AllByRecursion}
 use Rattle.pc_rows.specs.declared.rows.NoMemory.{NoMemory}
 use Rattle.pc_rows.specs.Linear.{Linear, of_constant}
 use Rattle.pc_rows.specs.Evidence.{System, Proof, Point}
-use Rattle.pc_rows.specs.Shows.{Shows, total}
+use Rattle.pc_rows.specs.Shows.{Shows}
 use Rattle.pc_rows.specs.Points.{AllMeetAt, Refutes}
 use Rattle.pc_rows.specs.Modest.{IsModest}
 
@@ -58,7 +58,3 @@ abbrev pub ContradictoryIs : List Linear → Result Bool NoMemory → Type 0
 ContradictoryIs rows (Ok true) = IsShown rows minus_one
 ContradictoryIs rows (Ok false) = AreMetSomewhere rows ⊎ (IsModest (question rows minus_one) → ⊥)
 ContradictoryIs rows (Err e) = Unit {0}
-
--- multipliers whose total is that far below 0 that the goal follows at every rational point, not at integer states alone
-abbrev pub IsFirmlyShown : List Linear → Linear → Type 0
-IsFirmlyShown rows goal = (p : Proof) × Shows rows goal p × ((total rows goal p).constant ≤ℤ neg_ℤ p.goal)

@@ -4,9 +4,10 @@ ghost use Rattle.std.specs.Prelude.{◌≡◌, ◌≤◌, ◌+◌, ◌++◌, [],
 ghost use Rattle.pc_rows.specs.Linear.{State, MeetsAll};
 ghost use Rattle.pc_elim.specs.Deciding.{DecideIs};
 ghost use Rattle.pc_entail.specs.Showing.{question, ShowIs, ShowsAllIs, ContradictoryIs};
+ghost use Rattle.pc_entail.specs.Steps.{FoundIs};
 
 use pc_elim::{Answer, decide};
-use pc_rows::{NoMemory, PREMISES, ROWS, Row, Rows, System};
+use pc_rows::{NoMemory, PREMISES, Proof, ROWS, Row, Rows, System};
 use std::alloc::Global;
 
 const _: () = prove!(ROWS <= PREMISES);
@@ -41,7 +42,7 @@ pub fn contradictory(alloc: Global, a: &Rows) -> Result<bool, NoMemory>
 }
 
 /// Whether the rows of `a` and then of `b` are found to show each of the goals.
-pub(crate) fn show_all(alloc: Global, a: &Rows, b: &Rows, goals: &Rows) -> Result<bool, NoMemory>
+fn show_all(alloc: Global, a: &Rows, b: &Rows, goals: &Rows) -> Result<bool, NoMemory>
     requires { length a.now + length b.now ≤ PREMISES }
     ensures { ShowsAllIs (a.now ++ b.now) goals.now result }
 {
@@ -87,8 +88,20 @@ fn add(system: &mut System, rows: &Rows) -> Result<(), NoMemory>
     Ok(())
 }
 
+/// A proof that the premises show the goal. None where a point refutes it, or the question is not
+/// settled.
+pub(crate) fn found(alloc: Global, system: &System) -> Result<Option<Proof>, NoMemory>
+    ensures { FoundIs system.now.premises system.now.goal result }
+{
+    match settled(alloc, system)? {
+        Answer::Shown(proof) => Ok(Some(proof)),
+        Answer::Point(_) => Ok(None),
+        Answer::Unsettled => Ok(None),
+    }
+}
+
 /// How a system is settled, whatever it asks: by elimination.
-pub(crate) fn settled(alloc: Global, system: &System) -> Result<Answer, NoMemory>
+fn settled(alloc: Global, system: &System) -> Result<Answer, NoMemory>
     ensures { DecideIs system.now result }
 {
     decide(alloc, system)

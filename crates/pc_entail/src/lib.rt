@@ -1,10 +1,11 @@
 //! Which rows show which, and lists of rows without those that the others show.
 #![tactic(auto)]
 
+mod composition;
 mod entailment;
 mod laws;
 mod reduction;
-mod strength;
+mod renewal;
 
 pub use entailment::{contradictory, entails, shows_all};
 pub use laws::{reductions_are_equal, shown_rows_are_met, tests_are_kept};

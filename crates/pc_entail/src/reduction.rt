@@ -2,13 +2,13 @@
 
 ghost use Rattle.std.specs.Prelude.{◌≡◌, ◌<◌, ◌≤◌, ◌+◌, ◌++◌, ◌↔◌, [], ◌∷◌, length, drop, IfOk};
 ghost use Rattle.pc_rows.specs.Linear.{State, MeetsAll};
-ghost use Rattle.pc_entail.specs.Showing.{AllShown};
 ghost use Rattle.pc_entail.specs.Reduction.{Reduced, Thinned, RemovesShown, AreModest};
-ghost use Rattle.pc_entail.specs.Steps.{GoesIs, StepIs};
+ghost use Rattle.pc_entail.specs.Steps.{rows_of, GoesIs, WithIs, StepIs};
 
-use crate::entailment::show_all;
-use crate::strength::{Strength, find_strength};
-use pc_rows::{NoMemory, PREMISES, ROWS, Row, Rows};
+use crate::entailment::{asked, found};
+use crate::renewal::{Removed, put, renewed};
+use pc_rows::{NoMemory, Proof, ROWS, Row, Rows};
+use sqlite_items::Items;
 use std::alloc::Global;
 
 /// The rows without those that the others show. The rows are gone through from the first to the
@@ -23,7 +23,7 @@ pub fn reduce(alloc: Global, a: &Rows) -> Result<Rows, NoMemory>
     ensures exact { IfOk result (λ rows. AreModest a.now → Reduced a.now rows) }
 {
     let mut kept = Rows::new(alloc);
-    let mut removed = Rows::new(alloc);
+    let mut removed = Items::new(alloc);
     for i in 0..a.len() {
         let later = from(alloc, a, i + 1)?;
         step(alloc, &mut kept, &mut removed, a.at(i), &later)?;
@@ -42,36 +42,63 @@ fn from(alloc: Global, a: &Rows, start: usize) -> Result<Rows, NoMemory>
     Ok(rows)
 }
 
-/// Puts the row to those that are kept, or to those that are removed.
+/// Puts the row to those that are kept, or to those that are removed, which have new proofs then.
 fn step(
     alloc: Global,
     kept: &mut Rows,
-    removed: &mut Rows,
+    removed: &mut Items<Removed>,
     r: &Row,
     later: &Rows,
 ) -> Result<(), NoMemory>
-    requires room { length kept.old + length removed.old + length later.now < ROWS }
-    requires shown { AllShown (kept.old ++ r.now ∷ later.now) removed.old }
+    requires { length kept.old + length later.now < ROWS }
     ensures { StepIs kept.old removed.old r.now later.now result kept.new removed.new }
 {
-    if goes(alloc, kept, removed, r, later)? {
-        push(removed, r)
-    } else {
-        push(kept, r)
+    match without(alloc, kept, removed.as_slice(), r, later)? {
+        Some(all) => {
+            *removed = all;
+            Ok(())
+        }
+        None => push(kept, r),
     }
 }
 
-/// Whether the row, and those that are removed, are found to be shown by the others. Where the row
-/// follows at every rational point, the others still show whatever they showed together with it.
-fn goes(alloc: Global, kept: &Rows, removed: &Rows, r: &Row, later: &Rows) -> Result<bool, NoMemory>
-    requires room { length kept.now + length later.now ≤ PREMISES }
-    requires shown { AllShown (kept.now ++ r.now ∷ later.now) removed.now }
-    ensures { GoesIs (kept.now ++ later.now) (removed.now ++ r.now ∷ []) result }
+/// The removed rows and then the row itself, with proofs by which the others show them. None where
+/// one of them is not found to be shown.
+fn without(
+    alloc: Global,
+    kept: &Rows,
+    removed: &[Removed],
+    r: &Row,
+    later: &Rows,
+) -> Result<Option<Items<Removed>>, NoMemory>
+    requires { length kept.now + length later.now < ROWS }
+    ensures { GoesIs (kept.now ++ later.now) (rows_of removed.now ++ r.now ∷ []) result }
 {
-    match find_strength(alloc, kept, later, r)? {
-        Strength::Firm => Ok(true),
-        Strength::Weak => show_all(alloc, kept, later, removed),
-        Strength::Unknown => Ok(false),
+    let mut system = asked(alloc, kept, later, r)?;
+    match found(alloc, &system)? {
+        Some(gone) => with(
+            renewed(alloc, &mut system, kept.len(), removed, &gone)?,
+            r,
+            gone,
+        ),
+        None => Ok(None),
+    }
+}
+
+/// The rows, if there are any, and then the row itself with its proof.
+fn with(
+    all: Option<Items<Removed>>,
+    r: &Row,
+    gone: Proof,
+) -> Result<Option<Items<Removed>>, NoMemory>
+    ensures { WithIs all r.now gone result }
+{
+    match all {
+        Some(mut all) => {
+            put(&mut all, r, gone)?;
+            Ok(Some(all))
+        }
+        None => Ok(None),
     }
 }
 

@@ -86,6 +86,20 @@ fn needless_rows_are_removed(rt: HostRuntime) -> Result<(), Fail> {
 }
 
 #[test]
+fn rows_are_shown_through_rows_that_go(rt: HostRuntime) -> Result<(), Fail> {
+    let alloc = rt.alloc();
+
+    // at integers each row follows from the next; the first still follows from the last alone
+    let last = reduce(alloc, &rows(alloc, &[(8, -7), (7, -6), (6, -5), (5, -4)])?)?;
+    assert_eq!(rt; pairs(&rt, &last)?.as_slice(), [(5, -4)].as_slice());
+
+    // 2x - 1 alone does not show the first row, so that 3x - 2 stays, which shows 2x - 1
+    let two = reduce(alloc, &rows(alloc, &[(5, -4), (4, -3), (3, -2), (2, -1)])?)?;
+    assert_eq!(rt; pairs(&rt, &two)?.as_slice(), [(3, -2)].as_slice());
+    Ok(())
+}
+
+#[test]
 fn what_integers_alone_show_is_tested_anew(rt: HostRuntime) -> Result<(), Fail> {
     let alloc = rt.alloc();
 

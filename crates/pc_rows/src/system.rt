@@ -79,6 +79,14 @@ impl System {
         &self.goal
     }
 
+    /// Asks for another goal of the same premises.
+    pub fn ask(&mut self, goal: Row)
+        ensures { self.new ≡ record { premises = self.old.premises; goal = goal } }
+    {
+        let _row = goal.constant();
+        self.goal = goal;
+    }
+
     /// Puts a premise at the end. After a refusal the system is as before.
     pub fn push(&mut self, premise: Row) -> Result<(), NoMemory>
         requires { length self.old.premises < PREMISES }

@@ -1,11 +1,8 @@
 use Rattle.std.proofs.Common.{arith}
-use Rattle.pc_entail.proofs.Reducing.{going_next, going_last, here_shown}
+use Rattle.pc_entail.proofs.Reducing.{going_next, going_last}
 use Rattle.pc_entail.proofs.Removing.{removes_shown, same_states}
 use Rattle.pc_entail.proofs.Modesty.{modest_reduced}
 use Rattle.pc_entail.proofs.reduction.reduce.Goals as goal
-
-pub step-requires-clause-shown : goal.step-requires-clause-shown
-step-requires-clause-shown c = here_shown c.args.a.now c.loop-i.i c.loop-i.kept c.loop-i.removed c.at.result.now c.in_ok-later.later c.loop-i.invariant c.at.ensures c.in_ok-later.ensures
 
 pub loop-i-preserved : goal.loop-i-preserved
 loop-i-preserved c = going_next c.args.a.now c.loop-i.i c.loop-i.kept c.loop-i.removed c.at.result.now c.in_ok-later.later c.step.new.kept c.step.new.removed c.loop-i.invariant c.at.ensures c.in_ok-later.ensures c.in_ok-step.ensures
