@@ -1,5 +1,5 @@
 -- What follows from how files, sources and words are answered.
-use Rattle.std.proofs.Common.{◌≡◌, ◌≢◌, ◌∙◌, ◌↔◌, ap, sym, Ok, Err, Some, None, subst, ℕ, ◌<◌, ◌≤◌, List, length, arith, ◌⊎◌, inl, inr, refl}
+use Rattle.std.proofs.Common.{◌≡◌, ◌≢◌, ◌∙◌, ◌↔◌, ap, sym, Ok, Err, Some, subst, ℕ, ◌<◌, ◌≤◌, List, length, arith, ◌⊎◌, inl, inr, refl}
 use Rattle.pc_ports.specs.Outside.{Holding, Untold, Nothing, Held}
 use Rattle.pc_text.specs.Bytes.{Bytes}
 use Rattle.pc_text.specs.declared.place.Place.{Place}
@@ -22,7 +22,7 @@ use Rattle.pc_app.specs.Analysed.{IsAnalysed}
 use Rattle.pc_app.specs.Rulings.{ruling_status}
 use Rattle.pc_app.specs.Verdicts.{verdict_status}
 use Rattle.pc_app.specs.Words.{Order, Infer, Certify, Replay, Run, Show, IsOrder, IsPlain, words_of}
-use Rattle.pc_app.specs.Answers.{MayHold, Answers, FileAnswers, SourceAnswers, ScriptAnswers, CertificateAnswers, AnalysisAnswers, OnSource, OnScript, OnCertificate, OnReplay, OnRun, OrderAnswers}
+use Rattle.pc_app.specs.Answers.{MayHold, Answers, FileAnswers, SourceAnswers, ScriptAnswers, CertificateAnswers, AnalysisAnswers, OnSource, OnScript, OnCertificate, OrderAnswers}
 use Rattle.pc_app.specs.Answers.Answers.{Unknown, Known}
 use Rattle.pc_app.specs.Answers.FileAnswers.{IsTooLong, IsShort}
 use Rattle.pc_app.specs.Answers.SourceAnswers.{IsFaulty, IsSpelled}

@@ -1,12 +1,12 @@
 -- What follows from how a call ends.
-use Rattle.std.proofs.Common.{◌≡◌, ℕ, ◌<◌, ◌≤◌, ◌↔◌, ◌⊎◌, inl, inr, List, [], ◌∷◌, length, Option, arith, refl, subst}
-use Rattle.pc_ports.specs.Outside.{Holding, Untold, Nothing, Held, Rose, Appended}
+use Rattle.std.proofs.Common.{◌≡◌, ℕ, ◌<◌, ◌≤◌, ◌↔◌, ◌⊎◌, inl, inr, List, [], ◌∷◌, length, Option, arith, subst}
+use Rattle.pc_ports.specs.Outside.{Holding, Held, Rose, Appended}
 use Rattle.pc_text.specs.Bytes.{Bytes}
 use Rattle.pc_app.specs.declared.status.TheConstants.{DONE, USAGE, REFUSED, STORE_FAILED, SINK_FAILED, NO_MEMORY, TOO_LONG}
 use Rattle.pc_app.specs.declared.limits.TheConstants.{SOURCE_BYTES}
 use Rattle.pc_app.specs.Words.{Order, Infer, Certify, Replay, Run, Show, IsOrder, IsInfer, IsCertify, IsReplay, IsRun, IsShow, IsPlain, files_of}
 use Rattle.pc_syntax.specs.declared.program.Program.{Program}
-use Rattle.pc_app.specs.Answers.{Answers, AnalysisAnswers, InferAnswers, OnSource, OrderAnswers}
+use Rattle.pc_app.specs.Answers.{AnalysisAnswers, InferAnswers, OnSource, OrderAnswers}
 use Rattle.pc_app.specs.Silences.{LacksSome, OrderIsLost, LacksFile}
 use Rattle.pc_app.specs.Promises.{OfBytes, PrintedSuffices, PrintedIsExact, PrintedCertificate, PrintedRuling, PrintedAccepted, PrintedVerdict, PrintedProgram, IsVerdict, IsRuling, AreThere, IsAnswered, IsOnlyStatus, HasAnswered, IsCutOff, Ends}
 use Rattle.pc_app.specs.Promises.Ends.{Answered, Unread, CutOff, Starved}

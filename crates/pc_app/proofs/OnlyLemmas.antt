@@ -1,14 +1,10 @@
 -- Words have one status, where the files that they name are told.
-use Rattle.std.proofs.Common.{◌≡◌, ◌≢◌, ◌∙◌, ap, sym, Ok, Err, Some, None, Option, Result, subst, ℕ, ℤ, ◌<◌, ◌≤◌, List, ◌∷◌, length, arith, false, refl, ◌⊎◌, inl, inr}
+use Rattle.std.proofs.Common.{◌≡◌, ◌≢◌, ◌∙◌, ap, sym, Ok, Err, Some, None, subst, ℕ, ◌<◌, List, ◌∷◌, length, arith, false, refl, ◌⊎◌, inl, inr}
 use Rattle.pc_ports.specs.Outside.{Holding, Untold, Nothing, Held}
 use Rattle.pc_text.specs.Bytes.{Bytes}
-use Rattle.pc_text.specs.Named.{Named}
-use Rattle.pc_text.specs.declared.place.Place.{Place}
 use Rattle.pc_syntax.specs.declared.program.Program.{Program}
-use Rattle.pc_syntax.specs.declared.tree.Stmt.{Stmt}
 use Rattle.pc_syntax.specs.Context.{Content, content_of}
 use Rattle.pc_syntax.specs.Machine.{started}
-use Rattle.pc_syntax.specs.Values.{State}
 use Rattle.pc_syntax.proofs.Readings.{each_text_has_no_more}
 use Rattle.pc_syntax.specs.Loops.{first, whiles_of}
 use Rattle.pc_cert.specs.Certificate.{Certificate}
@@ -21,11 +17,7 @@ use Rattle.pc_graph.specs.declared.what.What.TheVariants.{Enter}
 use Rattle.pc_graph.specs.Lowering.{graph, rules, points_from}
 use Rattle.pc_graph.specs.Flow.{Flow}
 use Rattle.pc_replay.specs.Rule.{ruling}
-use Rattle.pc_runner.specs.Runs.{SaysOf}
-use Rattle.pc_runner.specs.Scripts.{Choosing, script_of}
-use Rattle.pc_runner.specs.Verdicts.{verdict_of}
-use Rattle.pc_runner.specs.declared.fault.ScriptFault.{ScriptFault}
-use Rattle.pc_runner.specs.declared.verdict.Verdict.{Verdict}
+use Rattle.pc_runner.specs.Scripts.{Choosing}
 use Rattle.pc_runner.proofs.Sayings.{says_only}
 use Rattle.pc_app.specs.declared.status.TheConstants.{DONE}
 use Rattle.pc_app.specs.Words.{Order, Infer, Certify, Replay, Run, Show, IsOrder, files_of}
@@ -38,7 +30,7 @@ use Rattle.pc_app.specs.Answers.SourceAnswers.{IsFaulty, IsSpelled}
 use Rattle.pc_app.specs.Answers.ScriptAnswers.{IsNoScript, IsScript}
 use Rattle.pc_app.specs.Answers.CertificateAnswers.{IsNoCertificate, IsCertificate}
 use Rattle.pc_app.specs.Answers.AnalysisAnswers.{IsNotBuilt, IsAnalysed as IsBuilt}
-use Rattle.pc_app.specs.Promises.{AreTold, IsOnlyStatus}
+use Rattle.pc_app.specs.Promises.{AreTold}
 use Rattle.pc_app.proofs.AnswerLemmas.{order_answers}
 
 -- the graph of a program's parts

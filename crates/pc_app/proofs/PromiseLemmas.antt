@@ -1,17 +1,16 @@
 -- What an answer to an order promises of the program, by what was written.
-use Rattle.std.proofs.Common.{◌≡◌, ◌≢◌, ◌∙◌, sym, subst, ℕ, Option, codes, ◌++◌, arith, refl}
+use Rattle.std.proofs.Common.{◌≡◌, ◌∙◌, sym, subst, ℕ, Option, arith, refl}
 use Rattle.pc_ports.specs.Outside.{Holding, Untold, Nothing, Held, Appended}
 use Rattle.pc_text.specs.Bytes.{Bytes}
 use Rattle.pc_graph.specs.Lowering.{graph}
-use Rattle.pc_cert.specs.Certificate.{Certificate, condition_of}
-use Rattle.pc_cert.specs.Conditions.{condition_text}
+use Rattle.pc_cert.specs.Certificate.{condition_of}
 use Rattle.pc_replay.specs.Accepts.{Accepts}
 use Rattle.pc_replay.specs.Rule.{ruling}
 use Rattle.pc_replay.specs.declared.ruling.Ruling.{Ruling}
 use Rattle.pc_replay.specs.declared.ruling.Ruling.TheVariants as answer
 use Rattle.pc_replay.proofs.Ruled.{rule_is_meant}
 use Rattle.pc_replay.proofs.Sound.{accepted_programs_are_safe}
-use Rattle.pc_app.specs.declared.status.TheConstants.{DONE, FAILED, REFUSED, MALFORMED, TOO_LONG, PAST}
+use Rattle.pc_app.specs.declared.status.TheConstants.{DONE}
 use Rattle.pc_app.specs.Rulings.{ruling_status, ruling_text}
 use Rattle.pc_app.specs.Answers.{AnalysisAnswers, InferAnswers, CertifyAnswers, ReplayAnswers, RunAnswers, ShowAnswers, OnSource, OnReplay, OnRun}
 use Rattle.pc_app.specs.Promises.{OfBytes, PrintedSuffices, PrintedIsExact, PrintedCertificate, PrintedRuling, PrintedAccepted, PrintedVerdict, PrintedProgram, IsVerdict, IsRuling}

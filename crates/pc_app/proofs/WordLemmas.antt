@@ -1,7 +1,6 @@
 -- Lists of a few words, and the orders that they may be.
 use Rattle.std.proofs.Common.{◌≡◌, ℕ, ◌<◌, ◌≤◌, ◌⊎◌, inl, inr, List, [], ◌∷◌, length, map, get_or, arith, ap, sym, ◌∙◌, refl}
 use Rattle.std.proofs.lemmas.List.{length-map}
-use Rattle.pc_text.specs.Bytes.{Bytes}
 use Rattle.pc_app.specs.Words.{Order, Infer, Certify, Replay, Run, Show, words_of, IsPlain}
 
 pub two_of : {W : Type 0} (f : W → List ℕ) (ws : List W) (a b : W) → 2 ≤ length ws → length ws < 3 → a ≡ get_or ws 0 a → b ≡ get_or ws 1 b → map f ws ≡ f a ∷ f b ∷ []

@@ -10,7 +10,7 @@ use Rattle.pc_syntax.specs.Canonical.{program_text}
 use Rattle.pc_syntax.specs.Loops.{first, whiles_of}
 use Rattle.pc_syntax.specs.Spelling.{Spells, Faulty}
 use Rattle.pc_cert.specs.Certificate.{Certificate, condition_of}
-use Rattle.pc_cert.specs.CertificateTexts.{certificate_text, IsTextOf}
+use Rattle.pc_cert.specs.CertificateTexts.{IsTextOf}
 use Rattle.pc_cert.specs.Conditions.{condition_text}
 use Rattle.pc_cert.specs.Faults.{fault_of}
 use Rattle.pc_cert.specs.declared.fault.CertFault.{CertFault}

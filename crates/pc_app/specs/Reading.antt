@@ -6,13 +6,13 @@ use Rattle.pc_syntax.specs.declared.program.Program.{Program}
 use Rattle.pc_syntax.specs.Spelling.{Spells}
 use Rattle.pc_cert.specs.Certificate.{Certificate}
 use Rattle.pc_cert.specs.CertificateTexts.{IsTextOf}
-use Rattle.pc_runner.specs.Scripts.{Choosing, script_of}
+use Rattle.pc_runner.specs.Scripts.{script_of}
 use Rattle.pc_runner.specs.declared.script.Script.{Script}
 use Rattle.pc_app.specs.declared.answer.Answer.{Answer}
 use Rattle.pc_app.specs.declared.answer.Stop.{Stop}
 use Rattle.pc_app.specs.declared.answer.Stop.TheVariants as stop
 use Rattle.pc_app.specs.declared.limits.TheConstants.{SOURCE_BYTES, SCRIPT_BYTES, CERTIFICATE_BYTES}
-use Rattle.pc_app.specs.Answers.{MayHold, FileAnswers, OnSource, OnScript, OnCertificate, OrderAnswers, Answers}
+use Rattle.pc_app.specs.Answers.{MayHold, OnSource, OnScript, OnCertificate, OrderAnswers, Answers}
 use Rattle.pc_app.specs.Silences.{IsLost, OrderIsLost, LacksFile}
 use Rattle.pc_app.specs.Words.{Order}
 

@@ -1,9 +1,9 @@
 //! The text that tells a ruling on a certificate.
 
-ghost use Rattle.std.specs.Prelude.{◌≡◌, ◌≢◌, ◌++◌, length, codes, pos, OnOk, IfOk};
+ghost use Rattle.std.specs.Prelude.{◌≡◌, ◌++◌, length, OnOk, IfOk};
 ghost use Rattle.std.specs.List.{AllByRecursion};
 ghost use Rattle.pc_cert.specs.Certificate.{condition_of, SaysOf};
-ghost use Rattle.pc_app.specs.Rulings.{numbered, at_edge, at_row, refusal_text, refusal_line, ruling_status, ruling_text};
+ghost use Rattle.pc_app.specs.Rulings.{numbered, at_edge, at_row, refusal_text, ruling_status, ruling_text};
 
 use crate::answer::Answer;
 use crate::status::{DONE, FAILED};

@@ -1,6 +1,6 @@
 //! The top call.
 
-ghost use Rattle.std.specs.Prelude.{◌≡◌, ◌≢◌, ◌≤◌, ◌<◌, ◌↔◌, ◌⊎◌, ℕ, List, map, string_bytes, length};
+ghost use Rattle.std.specs.Prelude.{◌≡◌, ◌≤◌, ◌<◌, ◌↔◌, ◌⊎◌, ℕ, List, map, string_bytes, length};
 ghost use Rattle.pc_ports.specs.Outside.{Held, Rose};
 ghost use Rattle.pc_app.specs.Analysed.{IsAnalysed};
 ghost use Rattle.pc_app.specs.Words.{Order, IsOrder, IsInfer, IsCertify, IsReplay, IsRun, IsShow, IsPlain, files_of};

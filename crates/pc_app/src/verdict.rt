@@ -1,6 +1,6 @@
 //! The line that tells the verdict on a run.
 
-ghost use Rattle.std.specs.Prelude.{◌≡◌, ◌++◌, ◌<◌, ◌^◌, length, OnOk, IfOk, codes, pos};
+ghost use Rattle.std.specs.Prelude.{◌≡◌, ◌++◌, ◌<◌, OnOk, IfOk, codes, pos};
 ghost use Rattle.pc_text.specs.Numerals.{numeral};
 ghost use Rattle.pc_app.specs.Verdicts.{step_text, step_at, values_text, told, verdict_status, verdict_text};
 

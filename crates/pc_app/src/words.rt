@@ -1,6 +1,6 @@
 //! The words of a command line.
 
-ghost use Rattle.std.specs.Prelude.{◌≡◌, IsTrue, ◌↔◌, [], ◌∷◌, map, string_bytes, MatchOption};
+ghost use Rattle.std.specs.Prelude.{IsTrue, ◌↔◌, [], ◌∷◌, map, string_bytes, MatchOption};
 ghost use Rattle.pc_app.specs.Words.{IsFile, IsPlain, IsOrder, ordered};
 
 /// A command line in one of its plain forms.

@@ -1,6 +1,6 @@
 //! Certificates, read from their texts.
 
-ghost use Rattle.std.specs.Prelude.{◌≡◌, ◌≤◌, ◌<◌, ◌-◌, ◌^◌, length, IfOk};
+ghost use Rattle.std.specs.Prelude.{◌≤◌, ◌<◌, ◌-◌, ◌^◌, length, IfOk};
 ghost use Rattle.pc_cert.specs.Answers.{Gives, Reads, Means};
 ghost use Rattle.pc_cert.specs.CertificateTexts.{IsTextOf};
 ghost use Rattle.pc_cert.specs.Certificate.{Certificate as Claim};

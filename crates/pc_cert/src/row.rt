@@ -1,6 +1,6 @@
 //! The text of a row: its terms, its constant, and ` >= 0`.
 
-ghost use Rattle.std.specs.Prelude.{◌≡◌, ◌<◌, ◌++◌, not, length, codes, IfOk, OnOk, OnErr};
+ghost use Rattle.std.specs.Prelude.{◌≡◌, ◌<◌, ◌++◌, not, length, IfOk, OnOk, OnErr};
 ghost use Rattle.pc_rows.specs.Linear.{is_zero, coefficient, IsOver};
 ghost use Rattle.pc_cert.specs.Conditions.{sign, part_text, term, terms, is_empty, sum_text, constant_text, row_text};
 

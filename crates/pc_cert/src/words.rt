@@ -1,6 +1,6 @@
 //! The words of a line, one after another, and the numerals among them.
 
-ghost use Rattle.std.specs.Prelude.{◌≡◌, ◌+◌, [], ◌∷◌, length, MatchOption, IfSome, true};
+ghost use Rattle.std.specs.Prelude.{◌≡◌, ◌+◌, [], ◌∷◌, MatchOption};
 ghost use Rattle.std.specs.List.{list_all, position};
 ghost use Rattle.pc_text.specs.Lexemes.{in_number};
 ghost use Rattle.pc_cert.specs.Words as spec;

@@ -4,9 +4,8 @@
 //! variables only the constant is computed, and its multipliers where it is a contradiction. No
 //! number leaves the range there, so that the answer is the same.
 
-ghost use Rattle.std.specs.Prelude.{◌≡◌, ◌<◌, ◌≤◌, Some, ◌+ℤ◌, ◌*ℤ◌, ℕ, neg_ℤ, OkIff, [], ◌∷◌, length};
+ghost use Rattle.std.specs.Prelude.{◌≡◌, ◌<◌, ◌≤◌, Some, ◌+ℤ◌, ◌*ℤ◌, OkIff, [], ◌∷◌, length};
 ghost use Rattle.std.specs.List.{AllByRecursion};
-ghost use Rattle.pc_rows.specs.Linear.{InRange};
 ghost use Rattle.pc_elim.specs.declared.made.TheConstants.{LIMIT};
 ghost use Rattle.pc_elim.specs.Elimination.{combine, factor, flat, with_each, kept_of, combined_of, eliminated, places_below};
 ghost use Rattle.pc_elim.specs.Settling.{contradiction_of};

@@ -1,6 +1,6 @@
 //! Whether a system's premises show its goal.
 
-ghost use Rattle.std.specs.Prelude.{◌≡◌, ◌<◌, ◌≤◌, ◌+◌, ℤ, [], ◌∷◌, ◌++◌, length, take, IfOk, slice_index_or, pos};
+ghost use Rattle.std.specs.Prelude.{◌≡◌, ◌<◌, ◌≤◌, ◌+◌, [], ◌∷◌, ◌++◌, IfOk};
 ghost use Rattle.pc_rows.specs.Linear.{negation};
 ghost use Rattle.pc_rows.specs.Evidence.{IsAbove, IsSystem};
 ghost use Rattle.pc_rows.specs.Modest.{refuting};

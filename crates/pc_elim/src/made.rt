@@ -1,6 +1,6 @@
 //! Rows with the multipliers that make them.
 
-ghost use Rattle.std.specs.Prelude.{◌≡◌, ◌<◌, ℤ, pos, replicate};
+ghost use Rattle.std.specs.Prelude.{◌≡◌, ◌<◌, pos, replicate};
 ghost use Rattle.pc_elim.specs.Elimination.{factor, is_positive, unit};
 ghost use Rattle.pc_elim.specs.Settling.{is_contradiction};
 

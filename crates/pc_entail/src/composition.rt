@@ -1,6 +1,6 @@
 //! Proofs put together. Nothing is proved of what they show: whoever uses one checks it.
 
-ghost use Rattle.std.specs.Prelude.{◌<◌, ◌≤◌, ◌+◌, ◌^◌, ℕ, suc, IfOk};
+ghost use Rattle.std.specs.Prelude.{◌<◌, ◌+◌, ◌^◌, IfOk};
 ghost use Rattle.pc_rows.specs.Evidence.{IsAbove};
 
 use pc_rows::{NoMemory, Number, PREMISES, Part, Parts, Past, Proof};

@@ -1,6 +1,6 @@
 //! Whether rows show rows, by elimination.
 
-ghost use Rattle.std.specs.Prelude.{◌≡◌, ◌≤◌, ◌+◌, ◌++◌, [], length, IfOk, Ok, true};
+ghost use Rattle.std.specs.Prelude.{◌≡◌, ◌≤◌, ◌+◌, ◌++◌, length, IfOk, Ok, true};
 ghost use Rattle.pc_rows.specs.Linear.{State, MeetsAll};
 ghost use Rattle.pc_elim.specs.Deciding.{DecideIs};
 ghost use Rattle.pc_entail.specs.Showing.{question, ShowIs, ShowsAllIs, ContradictoryIs};

@@ -1,6 +1,6 @@
 //! Lists of rows without those that the others show.
 
-ghost use Rattle.std.specs.Prelude.{◌≡◌, ◌<◌, ◌≤◌, ◌+◌, ◌++◌, ◌↔◌, [], ◌∷◌, length, drop, IfOk};
+ghost use Rattle.std.specs.Prelude.{◌≡◌, ◌<◌, ◌+◌, ◌++◌, ◌↔◌, [], ◌∷◌, length, drop, IfOk};
 ghost use Rattle.pc_rows.specs.Linear.{State, MeetsAll};
 ghost use Rattle.pc_entail.specs.Reduction.{Reduced, Thinned, RemovesShown, AreModest};
 ghost use Rattle.pc_entail.specs.Steps.{rows_of, GoesIs, WithIs, StepIs};

@@ -1,6 +1,6 @@
 //! The descent through comparisons, conjunctions and tests.
 
-ghost use Rattle.std.specs.Prelude.{◌≡◌, ◌<◌, ◌+◌, ◌≤◌, length, OnOk};
+ghost use Rattle.std.specs.Prelude.{◌≡◌, ◌<◌, ◌≤◌, length};
 ghost use Rattle.pc_grammar.specs.Expressions.{paren};
 ghost use Rattle.pc_grammar.specs.Statements as spec;
 ghost use Rattle.pc_grammar.specs.Reads.{Reads};

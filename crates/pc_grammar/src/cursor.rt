@@ -2,7 +2,7 @@
 //! fault, or at the end of the text: so no error carries a place.
 
 ghost use Rattle.std.specs.Prelude.{◌≡◌, ◌+◌, ◌≤◌, length, OnOk, IfErr};
-ghost use Rattle.pc_grammar.specs.Combinators.{starts, token};
+ghost use Rattle.pc_grammar.specs.Combinators.{starts};
 ghost use Rattle.pc_grammar.specs.Terminals.{among, the, one, one_of, has};
 ghost use Rattle.pc_grammar.specs.Terminals as spec;
 ghost use Rattle.pc_grammar.specs.Expressions.{signs};

@@ -1,7 +1,7 @@
 //! The limits on nesting and on lengths, as counts over the symbols, apart from the grammar. They
 //! bound the recursion of the descent, which reads no further than the first symbol past a limit.
 
-ghost use Rattle.std.specs.Prelude.{◌≡◌, ◌+◌, ◌<◌, ◌≤◌, length, IfSome};
+ghost use Rattle.std.specs.Prelude.{◌≡◌, ◌+◌, ◌<◌, length, IfSome};
 ghost use Rattle.pc_grammar.specs.Combinators.{starts};
 ghost use Rattle.pc_grammar.specs.Terminals.{the, has};
 ghost use Rattle.pc_grammar.specs.Limits as spec;

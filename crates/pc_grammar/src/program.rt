@@ -1,6 +1,6 @@
 //! The descent through programs.
 
-ghost use Rattle.std.specs.Prelude.{◌≡◌, ◌<◌, ◌+◌, ◌≤◌, suc, length, OnOk};
+ghost use Rattle.std.specs.Prelude.{◌<◌, ◌+◌, ◌≤◌, length, OnOk};
 ghost use Rattle.pc_grammar.specs.Combinators.{whole, maybe, map_parser};
 ghost use Rattle.pc_grammar.specs.Terminals.{the};
 ghost use Rattle.pc_grammar.specs.Programs as spec;

@@ -1,6 +1,6 @@
 //! The descent through statements and blocks.
 
-ghost use Rattle.std.specs.Prelude.{◌≡◌, ◌<◌, ◌+◌, ◌≤◌, length, OnOk};
+ghost use Rattle.std.specs.Prelude.{◌<◌, ◌+◌, ◌≤◌, length, OnOk};
 ghost use Rattle.pc_grammar.specs.Expressions.{paren};
 ghost use Rattle.pc_grammar.specs.Statements as spec;
 ghost use Rattle.pc_grammar.specs.Reads.{Reads};

@@ -1,6 +1,6 @@
 //! From tokens to symbols.
 
-ghost use Rattle.std.specs.Prelude.{◌≡◌, ◌<◌, ◌≤◌, ◌-◌, ◌^◌, length, slice_range, IfOk, OnOk};
+ghost use Rattle.std.specs.Prelude.{◌≡◌, ◌<◌, ◌≤◌, ◌-◌, ◌^◌, length, IfOk};
 ghost use Rattle.pc_text.specs.Lexemes.{AreSpans};
 ghost use Rattle.pc_text.specs.Places.{place_of};
 ghost use Rattle.pc_grammar.specs.Symbols as spec;

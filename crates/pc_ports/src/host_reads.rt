@@ -1,5 +1,5 @@
-ghost use Rattle.std.specs.Prelude.{◌≡◌, ◌≢◌, ℕ, List, ◌<◌, ◌≤◌, ◌+◌, length, IfOk, IfErr};
-ghost use Rattle.pc_ports.specs.Outside.{Holding, Untold, FetchCause, TakenFrom};
+ghost use Rattle.std.specs.Prelude.{◌≡◌, ◌≢◌, ℕ, ◌<◌, ◌≤◌, ◌+◌, length, IfOk, IfErr};
+ghost use Rattle.pc_ports.specs.Outside.{Untold};
 ghost use Rattle.pc_ports.specs.declared.reads.FetchFault.TheVariants.{Missing};
 
 use crate::lists::one_more_than;

@@ -1,5 +1,5 @@
 -- The rule accepts exactly where nothing is wrong.
-use Rattle.std.proofs.Common.{◌≡◌, ℕ, ◌+◌, List, [], ◌∷◌, ◌++◌, map, Bool, true, false, length, refl, ap, arith, ◌==◌, Option, Some, None}
+use Rattle.std.proofs.Common.{◌≡◌, ℕ, ◌+◌, List, [], ◌∷◌, ◌++◌, map, Bool, true, false, length, refl, ap, ◌==◌, Option, Some, None}
 use Rattle.std.specs.List.{AllByRecursion, zip}
 use Rattle.std.proofs.lemmas.Bool.{eqb-true}
 use Rattle.std.proofs.lemmas.Bool.Decides.{Decides-eqb}
@@ -11,7 +11,6 @@ use Rattle.pc_graph.specs.declared.what.What.TheVariants.{Enter, Test, Set, Chec
 use Rattle.pc_graph.specs.Carry.{back, back_all, owes}
 use Rattle.pc_graph.specs.Flow.{Flow}
 use Rattle.pc_cert.specs.declared.certificate.Annotated.{Annotated}
-use Rattle.pc_cert.specs.Certificate.{Certificate}
 use Rattle.pc_replay.specs.declared.flaw.Flaw.{Flaw}
 use Rattle.pc_replay.specs.declared.flaw.Flaw.TheVariants as flaw
 use Rattle.pc_replay.specs.declared.ruling.Ruling.{Ruling}

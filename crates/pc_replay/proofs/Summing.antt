@@ -1,10 +1,9 @@
 -- Products that are added in place, one after the other.
 use Rattle.std.proofs.Common.{◌≡◌, ℕ, zero, suc, ◌+◌, ◌<◌, ◌≤◌, ℤ, pos, ◌+ℤ◌, ◌*ℤ◌, List, [], ◌∷◌, ◌++◌, length, take, drop, set, get_or, replicate, refl, sym, ap, subst, ◌∙◌, arith, append_assoc}
-use Rattle.std.proofs.lemmas.Int.{ints}
 use Rattle.std.proofs.lemmas.List.{drop-set-lt, take_more_set, drop_all, take_all, append-nil, get_or_default}
 use Rattle.std.proofs.Math.IntN.{*ℤ-zero, +ℤ_idl, +ℤ_idr}
 use Rattle.pc_rows.specs.declared.row.TheConstants.{VARIABLES}
-use Rattle.pc_rows.specs.Linear.{Linear, InRange, AllInRange, IsInRange, add_lists, scale_list, sum_of, scaled_by, negation, of_constant}
+use Rattle.pc_rows.specs.Linear.{Linear, InRange, IsInRange, add_lists, scale_list, sum_of, scaled_by, negation, of_constant}
 use Rattle.pc_rows.specs.declared.proof.Part.{Part}
 use Rattle.pc_rows.specs.Evidence.{Proof}
 use Rattle.pc_rows.specs.Shows.{with_parts, total, PartsFit, TotalFits}

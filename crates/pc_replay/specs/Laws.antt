@@ -1,13 +1,12 @@
 -- What the rule of the replayer promises.
-use Rattle.std.specs.Prelude.{◌≡◌, ◌↔◌, ℕ, true, List, map, None}
+use Rattle.std.specs.Prelude.{◌≡◌, ◌↔◌, List, map, None}
 use Rattle.pc_rows.specs.Linear.{Linear, MeetsSome}
 use Rattle.pc_rows.specs.Evidence.{Proof}
-use Rattle.pc_rows.specs.Shows.{TotalFits}
 use Rattle.pc_syntax.specs.Machine.{Safe}
 use Rattle.pc_syntax.specs.Values.{State}
 use Rattle.pc_syntax.specs.declared.program.Program.{Program}
 use Rattle.pc_graph.specs.declared.what.What.{What}
-use Rattle.pc_graph.specs.Carry.{BackFits, back, owes}
+use Rattle.pc_graph.specs.Carry.{back, owes}
 use Rattle.pc_graph.specs.Flow.{Flow}
 use Rattle.pc_graph.specs.Lowering.{graph}
 use Rattle.pc_graph.specs.Shape.{IsGraph}

@@ -3,7 +3,6 @@ use Rattle.std.specs.Prelude.{◌==◌, ℕ, ◌+◌, List, [], ◌∷◌, ◌++
 use Rattle.std.specs.List.{zip}
 use Rattle.pc_rows.specs.Linear.{Linear}
 use Rattle.pc_rows.specs.Evidence.{Proof}
-use Rattle.pc_graph.specs.declared.what.What.{What}
 use Rattle.pc_graph.specs.Arc.{Arc}
 use Rattle.pc_graph.specs.Carry.{owes, test_rows}
 use Rattle.pc_graph.specs.Flow.{Flow}

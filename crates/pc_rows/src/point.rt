@@ -1,7 +1,7 @@
 //! Rational points.
 
 ghost use Rattle.std.specs.Prelude.{◌≡◌, ◌<◌, ℤ, pos, ◌≤ℤ◌, int_le, replicate, slice_index_or, OkIff, SomeIff};
-ghost use Rattle.pc_rows.specs.Linear.{InRange, AllInRange, scale_list};
+ghost use Rattle.pc_rows.specs.Linear.{InRange, AllInRange};
 ghost use Rattle.pc_rows.specs.Evidence.{IsPoint};
 ghost use Rattle.pc_rows.specs.Points.{numerator, NumeratorFits, over_multiple, with_numerator};
 

@@ -1,8 +1,7 @@
 //! Proofs that premises show a goal.
 
-ghost use Rattle.std.specs.Prelude.{◌≡◌, ◌≢◌, ◌<◌, ◌≤◌, ℤ, pos, [], ◌∷◌, ◌++◌, length, slice_get, Some, IfOk, OnOk, OnErr};
+ghost use Rattle.std.specs.Prelude.{◌≡◌, ◌≢◌, ◌<◌, pos, [], ◌∷◌, ◌++◌, length, slice_get, Some, IfOk, OnOk, OnErr};
 ghost use Rattle.std.specs.List.{list_all};
-ghost use Rattle.pc_rows.specs.Linear.{InRange};
 ghost use Rattle.pc_rows.specs.Checks.{is_usable, are_usable};
 ghost use Rattle.pc_rows.specs.Evidence.{IsAbove, IsParts, IsProof};
 

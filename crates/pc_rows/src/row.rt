@@ -1,8 +1,6 @@
 //! Rows.
 
-ghost use Rattle.std.specs.Prelude.{◌≡◌, ◌<◌, ◌*ℤ◌, neg_ℤ, ◌+ℤ◌, OkIff, pos, replicate};
-ghost use Rattle.std.specs.Ordering.{int_eq};
-ghost use Rattle.std.specs.Cmp.Lexicographic.{pointwise};
+ghost use Rattle.std.specs.Prelude.{◌≡◌, ◌<◌, ◌*ℤ◌, ◌+ℤ◌, OkIff, pos, replicate};
 ghost use Rattle.pc_rows.specs.Points.{SumsFit};
 ghost use Rattle.pc_rows.specs.Linear.{InRange, dot, IsInRange, IsRow, coefficient, of_constant, with_coefficient, sum_of, difference_of, scaled_by, opposite_of, above_of, first_of, is_number, negation};
 ghost use Rattle.pc_rows.specs.Joins.{is_always, is_at_most};

@@ -2,7 +2,6 @@
 
 ghost use Rattle.std.specs.Prelude.{◌≡◌, ◌<◌, ◌↔◌, true, [], ◌∷◌, ◌++◌, length, slice_get, Some, OnOk, OnErr, OkIff};
 ghost use Rattle.std.specs.List.{AllByRecursion};
-ghost use Rattle.pc_rows.specs.Linear.{IsInRange, IsRow};
 ghost use Rattle.pc_rows.specs.Evidence.{IsSystem};
 ghost use Rattle.pc_rows.specs.Shows.{with_parts, total, PartsFit, TotalFits, Shows};
 ghost use Rattle.pc_rows.specs.Checks.{IsContradiction};

@@ -1,9 +1,9 @@
 //! The machine that runs a program.
 
-ghost use Rattle.std.specs.Prelude.{◌≡◌, ◌∷◌, ◌++◌, ◌+ℤ◌, OnOk, IfOk, slice_set};
+ghost use Rattle.std.specs.Prelude.{◌≡◌, ◌∷◌, ◌++◌, IfOk, slice_set};
 ghost use Rattle.pc_syntax.specs.Machine.{clamped, end_of};
 ghost use Rattle.pc_syntax.specs.declared.tree.Stmt.{out-Stmt};
-ghost use Rattle.pc_runner.specs.Checked.{then_with, assigned, with_choice, stepped_at, stepped};
+ghost use Rattle.pc_runner.specs.Checked.{then_with, assigned, stepped_at, stepped};
 ghost use Rattle.pc_runner.specs.Stack.{flat, led_to, state_or_past};
 
 use crate::arithmetic::sum;

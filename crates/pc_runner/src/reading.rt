@@ -1,6 +1,6 @@
 //! Scripts, read from their texts.
 
-ghost use Rattle.std.specs.Prelude.{◌≡◌, ◌≤◌, ◌<◌, ◌+◌, ◌-◌, ◌^◌, ◌++◌, ℕ, [], length, replicate, map, true, OnOk, IfOk, option_map, MatchOption, Result};
+ghost use Rattle.std.specs.Prelude.{◌≡◌, ◌≤◌, ◌<◌, ◌+◌, ◌-◌, ◌^◌, ◌++◌, [], length, replicate, true, OnOk, IfOk, option_map, Result};
 ghost use Rattle.std.specs.List.{list_all};
 ghost use Rattle.pc_text.specs.Numerals.{integer_of};
 ghost use Rattle.pc_runner.specs.Answers.{Gives, Reads};

@@ -1,6 +1,6 @@
 //! Runs of programs.
 
-ghost use Rattle.std.specs.Prelude.{◌≡◌, ◌≤◌, ◌+◌, ◌++◌, ◌-◌, pos, length, replicate, IfOk};
+ghost use Rattle.std.specs.Prelude.{◌≡◌, ◌+◌, ◌-◌, length, IfOk};
 ghost use Rattle.pc_syntax.specs.Machine.{started};
 ghost use Rattle.pc_runner.specs.Verdicts.{verdict_of};
 ghost use Rattle.pc_runner.specs.Runs.{SaysOf};

@@ -23,7 +23,7 @@ use Rattle.pc_syntax.specs.Context.{resolved, formed, expr_step, checked_expr}
 use Rattle.pc_syntax.specs.Pieces.{Piece, Mark}
 use Rattle.pc_syntax.specs.Canonical.{wrapped, joined, spaced, wraps_negation, wraps_sum, wraps_product, expr_pieces}
 use Rattle.pc_syntax.specs.Showable as shown
-use Rattle.pc_syntax.specs.Showable.{signs_in, sign_weight, piece_weight}
+use Rattle.pc_syntax.specs.Showable.{signs_in, sign_weight}
 use Rattle.pc_syntax.specs.ShownTrees as short
 use Rattle.pc_syntax.specs.ShownTrees.{around}
 use Rattle.pc_syntax.proofs.Results.{bind_keeps}

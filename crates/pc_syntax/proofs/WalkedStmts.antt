@@ -26,7 +26,6 @@ use Rattle.pc_text.specs.Bytes.{Bytes}
 use Rattle.pc_syntax.specs.Forms.{bind}
 use Rattle.pc_syntax.specs.Sane as sane
 use Rattle.pc_syntax.specs.Context as walk
-use Rattle.pc_syntax.specs.Context.{Content}
 use Rattle.pc_syntax.specs.Trees as trees
 use Rattle.pc_syntax.specs.Kept.{WalksAreSane}
 use Rattle.pc_syntax.proofs.Results.{and_is, and_of, at_most, bind_keeps}

@@ -1,8 +1,7 @@
 //! Normal forms: the rows that expressions are worth.
 
-ghost use Rattle.std.specs.Prelude.{◌≡◌, true, pos, negsuc, ◌<◌};
+ghost use Rattle.std.specs.Prelude.{◌≡◌, true, ◌<◌};
 ghost use Rattle.pc_rows.specs.Linear.{InRange, fits, sum_of, difference_of, scaled_by};
-ghost use Rattle.pc_rows.specs.declared.row.TheConstants.{VARIABLES};
 ghost use Rattle.pc_syntax.specs.Forms.{is_fit, form_of, product};
 
 use crate::tree::Expr;

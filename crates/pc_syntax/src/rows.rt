@@ -1,6 +1,6 @@
 //! The rows that comparisons of programs say.
 
-ghost use Rattle.std.specs.Prelude.{◌≡◌, ◌+◌, ◌*◌, ◌≤◌, ◌++◌, ◌∷◌, [], true, length, OnOk, IfOk};
+ghost use Rattle.std.specs.Prelude.{◌≡◌, ◌+◌, ◌≤◌, ◌++◌, ◌∷◌, [], true, length, OnOk, IfOk};
 ghost use Rattle.std.specs.List.{list_all};
 ghost use Rattle.pc_rows.specs.Linear.{is_in_range, difference_of, above_of};
 ghost use Rattle.pc_rows.specs.declared.rows.TheConstants.{ROWS};

@@ -1,6 +1,6 @@
 //! The tokens of a text.
 
-ghost use Rattle.std.specs.Prelude.{◌≡◌, ◌≤◌, ◌<◌, ◌^◌, ◌-◌, ◌+◌, List, length, drop, slice_range, IfSome, IfOk, IfErr, OnOk, Result};
+ghost use Rattle.std.specs.Prelude.{◌≡◌, ◌≤◌, ◌<◌, ◌^◌, ◌-◌, ◌+◌, List, length, drop, slice_range, IfOk, IfErr, OnOk, Result};
 ghost use Rattle.pc_text.specs.Lexemes as spec;
 ghost use Rattle.pc_text.specs.Lex as lex;
 ghost use Rattle.pc_text.specs.Places.{place_of};

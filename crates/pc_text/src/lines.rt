@@ -1,6 +1,6 @@
 //! The lines of a text, one after another.
 
-ghost use Rattle.std.specs.Prelude.{◌≡◌, ◌<◌, ◌≤◌, ◌+◌, ◌-◌, ◌^◌, [], length, MatchOption, IfSome};
+ghost use Rattle.std.specs.Prelude.{◌≡◌, ◌<◌, ◌+◌, ◌-◌, ◌^◌, [], length, MatchOption, IfSome};
 ghost use Rattle.pc_text.specs.Lines.{IsLine};
 
 use crate::lexeme::{ByteSet, run};

@@ -1,6 +1,6 @@
 //! Rows carried back over an assignment.
 
-ghost use Rattle.std.specs.Prelude.{◌≡◌, ℤ, pos, ◌+ℤ◌, ◌*ℤ◌, ◌≤ℤ◌, ◌<◌, OkIff, slice_set};
+ghost use Rattle.std.specs.Prelude.{ℤ, pos, ◌+ℤ◌, ◌*ℤ◌, ◌≤ℤ◌, ◌<◌, OkIff, slice_set};
 ghost use Rattle.pc_rows.specs.Linear.{InRange, coefficient, add_lists, scale_list};
 ghost use Rattle.pc_rows.specs.Substitution.{substituted, SubstituteFits, carried, CarryFits, ConstantFits, CoefficientsFit, lesser};
 

@@ -8,7 +8,7 @@ ghost use Rattle.pc_syntax.specs.Context as spec;
 ghost use Rattle.pc_syntax.specs.Forms.{row_fits, rows_by, is_unequal};
 ghost use Rattle.pc_syntax.specs.Sane.{is_either};
 ghost use Rattle.pc_syntax.specs.Faults.{Gives};
-ghost use Rattle.pc_syntax.specs.Trees.{fit_compare, fit_each, fit_all, fit_test, fit_right, fit_choice};
+ghost use Rattle.pc_syntax.specs.Trees.{fit_compare, fit_each, fit_test, fit_right};
 
 use crate::bounds::end_of;
 use crate::fault::SourceFault;

@@ -1,7 +1,7 @@
-use Rattle.std.proofs.Common.{arith, sym, ◌∙◌, rules, FitsSigned, to_z-of_z}
+use Rattle.std.proofs.Common.{arith, rules, FitsSigned, to_z-of_z}
 use Rattle.std.specs.Int.{w128}
 use Rattle.std.proofs.lemmas.Bool.Decides.{nat_tests}
-use Rattle.pc_app.proofs.VerdictLemmas.{next_value, no_names_left, no_values_left}
+use Rattle.pc_app.proofs.VerdictLemmas.{next_value, no_values_left}
 use Rattle.pc_app.proofs.verdict.push_values.Goals as goal
 
 pub returns-in_default : goal.returns-in_default

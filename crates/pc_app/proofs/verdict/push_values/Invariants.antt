@@ -1,6 +1,5 @@
 use Rattle.std.proofs.Common.{◌≡◌}
 use Rattle.pc_app.proofs.VerdictLemmas.{with_rest}
-use Rattle.pc_app.specs.Verdicts.{values_text}
 use Rattle.pc_app.proofs.verdict.push_values.Given as goal
 
 abbrev pub invariant-loop-i : goal.invariant-loop-i

@@ -1,5 +1,4 @@
-use Rattle.std.proofs.Common.{length, ap, ◌∙◌, ◌≡◌, List}
-use Rattle.pc_rows.specs.Linear.{Linear}
+use Rattle.std.proofs.Common.{ap, ◌∙◌}
 use Rattle.pc_graph.specs.Arc.{Arc}
 use Rattle.pc_replay.specs.Rule.{rows_at}
 use Rattle.pc_replay.proofs.Edges.{edge_accepts, edge_refuses, edge_goes_on}

@@ -1,4 +1,4 @@
-use Rattle.std.proofs.Common.{sym, ap, ◌∙◌, not}
+use Rattle.std.proofs.Common.{sym, ap, not}
 use Rattle.pc_rows.specs.Linear.{Linear}
 use Rattle.pc_replay.specs.Shape.{is_over}
 use Rattle.pc_replay.proofs.Turns.{found_here, found_later}

@@ -1,4 +1,4 @@
-use Rattle.std.proofs.Common.{◌≡◌, ◌<◌, ◌≤◌, length, set, get_or, arith, refl, ◌∙◌, length-set}
+use Rattle.std.proofs.Common.{◌<◌, ◌≤◌, length, set, get_or, arith, refl, ◌∙◌, length-set}
 use Rattle.std.proofs.lemmas.List.{get_or_default}
 use Rattle.pc_replay.proofs.Summing.{products_go_on, products_fit_on, products_fit_back, products_done, none_left_fit}
 use Rattle.pc_replay.proofs.totals.add_products.Goals as goal
