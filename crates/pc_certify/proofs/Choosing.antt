@@ -17,7 +17,7 @@ use Rattle.pc_replay.specs.Accepts.{Accepts}
 use Rattle.pc_certify.specs.declared.inference.TheConstants.{CANDIDATES}
 use Rattle.pc_certify.specs.Causes.{Fails}
 use Rattle.pc_certify.specs.Claims.{claim, IsProved}
-use Rattle.pc_certify.specs.Inferring.{graph_need, IsReduced, IsOfEntry, AreEntryRows, IsExact, IsRefused, HasNone, ReducesTo, IsChosen, ChoiceIs, AreAlternatives, CandidateIs, PossibleIs}
+use Rattle.pc_certify.specs.Inferring.{graph_need, IsReduced, IsOfEntry, AreEntryRows, IsExact, IsRefused, HasNone, HasNeeds, ReducesTo, IsChosen, ChoiceIs, AreAlternatives, CandidateIs, PossibleIs}
 use Rattle.pc_certify.specs.Proving.{EdgeDone, AnnotatedIs}
 use Rattle.pc_certify.proofs.Claimed.{proved_is_accepted, few_proofs, annotation_proved}
 use Rattle.pc_certify.proofs.Pairs.{pairs_long}
@@ -44,10 +44,13 @@ module _ (g : Flow) (a b : Annotated) (is : a.rows ≡ graph_need g) (reduces : 
   same_states : (s : State) → MeetsAll s (rows_at (graph_need g) 0) → MeetsAll s (rows_at b.rows 0)
   same_states s m = (reduces.states s).0 (subst (λ (z : List (List Linear)). MeetsAll s (rows_at z 0)) (sym is) m)
 
+  others : HasNeeds g b
+  others i later = reduces.others i later ∙ ap (λ (z : List (List Linear)). rows_at z i) is
+
   pub choice_is : (found : Result (Option Annotated) NoMemory) → PossibleIs b found → ChoiceIs g found
   choice_is (Ok (Some d)) h =
       subst (IsChosen g) (sym h.0)
-      (record { proved = reduces.proved; rows = record { most = h.1; over = reduces.proved.entry; reduced = of_entry; met = h.2 }; states = same_states })
+      (record { proved = reduces.proved; rows = record { most = h.1; over = reduces.proved.entry; reduced = of_entry; met = h.2 }; states = same_states; others = others })
   choice_is (Ok None) h =
       record {
         cause = inr (inr (rows_at b.rows 0, of_entry, h));
@@ -82,6 +85,11 @@ pub are_entry_rows : (g : Flow) (alternatives : List Annotated) → AreAlternati
 are_entry_rows g [] h = tt
 are_entry_rows g (a ∷ []) h = (subst (AreEntryRows g) (first_rows a.rows) h.rows, tt)
 are_entry_rows g (a ∷ b ∷ more) h = absurd h
+
+pub have_needs : (g : Flow) (alternatives : List Annotated) → AreAlternatives g alternatives → AllByRecursion (HasNeeds g) alternatives
+have_needs g [] h = tt
+have_needs g (a ∷ []) h = (h.others, tt)
+have_needs g (a ∷ b ∷ more) h = absurd h
 
 pub has_none : (g : Flow) (alternatives : List Annotated) → AreAlternatives g alternatives → alternatives ≡ [] → HasNone g
 has_none g [] h e = h.cause

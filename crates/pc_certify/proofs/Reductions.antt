@@ -37,11 +37,11 @@ module _ (g : Flow) (a : Annotated) (proved : IsProved g a) (left : List Linear)
   -- nothing was removed
   pub none_removed : RemovesShown (rows_at a.rows 0) left → length left ≡ length (rows_at a.rows 0) → ReducesTo g a a
   none_removed (gone, split, shown) long =
-      record { proved = proved; rows = (left, thin, inl (all_stay (rows_at a.rows 0) left gone split long)); states = λ s. ((λ m. m), (λ m. m)) }
+      record { proved = proved; rows = (left, thin, inl (all_stay (rows_at a.rows 0) left gone split long)); states = λ s. ((λ m. m), (λ m. m)); others = λ i later. refl }
 
   -- what is owed is not found to be shown
   pub not_renewed : IsNotRenewed g.params (rows_at a.rows 1) left → ReducesTo g a a
-  not_renewed h = record { proved = proved; rows = (left, thin, inr (refl, h)); states = λ s. ((λ m. m), (λ m. m)) }
+  not_renewed h = record { proved = proved; rows = (left, thin, inr (refl, h)); states = λ s. ((λ m. m), (λ m. m)); others = λ i later. refl }
 
   pub left_over : RemovesShown (rows_at a.rows 0) left → AllByRecursion (IsOver g.params) left
   left_over removes = stay_each (IsOver g.params) (rows_at a.rows 0) left removes proved.entry
@@ -55,6 +55,7 @@ module _ (g : Flow) (a : Annotated) (proved : IsProved g a) (left : List Linear)
         proved = right;
         rows = (left, thin, inl here);
         states = λ s. subst (λ (z : List Linear). MeetsAll s (rows_at a.rows 0) ↔ MeetsAll s z) (sym here) (states s);
+        others = λ i later. ap (λ (z : List (List Linear)). rows_at z i) rows ∙ get_or-set_other a.rows 0 i left [] (λ e. omega arith);
       }
 
   pub renewed_edge : (o : Option (List Proof)) (proofs : List Proof) → 0 < length a.rows → o ≡ Some proofs → RenewedIs g.params left (rows_at a.rows 1) (Ok o) →

@@ -70,17 +70,23 @@ CandidateIs g (Ok (Some a)) = IsProved g a × (a.rows ≡ graph_need g)
 CandidateIs g (Ok None) = (IsTame g → ⊥) × (IsRefused g ⊎ Fails g (graph_need g))
 CandidateIs g (Err e) = Unit {0}
 
+-- an alternative has what is needed at every point but the entry
+abbrev pub HasNeeds : Flow → Annotated → Type 0
+HasNeeds g a = (i : ℕ) → 1 ≤ i → rows_at a.rows i ≡ rows_at (graph_need g) i
+
 -- an alternative with the rows of its entry reduced, as another one
 pub record ReducesTo (g : Flow) (a b : Annotated) : Type 0 where
   pub proved : IsProved g b
   pub rows : IsReduced g.params (rows_at a.rows 1) (rows_at a.rows 0) (rows_at b.rows 0)
   pub states : (s : State) → MeetsAll s (rows_at a.rows 0) ↔ MeetsAll s (rows_at b.rows 0)
+  pub others : (i : ℕ) → 1 ≤ i → rows_at b.rows i ≡ rows_at a.rows i
 
 -- an alternative that is chosen; else why there is none
 pub record IsChosen (g : Flow) (a : Annotated) : Type 0 where
   pub proved : IsProved g a
   pub rows : AreEntryRows g (rows_at a.rows 0)
   pub states : (s : State) → MeetsAll s (rows_at (graph_need g) 0) → MeetsAll s (rows_at a.rows 0)
+  pub others : HasNeeds g a
 
 pub record IsNotChosen (g : Flow) : Type 0 where
   pub cause : HasNone g

@@ -8,7 +8,7 @@ ghost use Rattle.pc_cert.specs.Certificate.{IsShowable, condition_of};
 ghost use Rattle.pc_replay.specs.Accepts.{Accepts};
 ghost use Rattle.pc_replay.specs.Laws.{IsSafe};
 ghost use Rattle.pc_certify.specs.Claims.{IsProved, claim};
-ghost use Rattle.pc_certify.specs.Inferring.{IsExact, AreEntryRows, HasNone, AreAlternatives, ChoiceIs, PossibleIs, CandidateIs};
+ghost use Rattle.pc_certify.specs.Inferring.{IsExact, AreEntryRows, HasNone, HasNeeds, AreAlternatives, ChoiceIs, PossibleIs, CandidateIs};
 
 use crate::annotation::annotated;
 use crate::entry::{entry_edge, reduced};
@@ -38,6 +38,7 @@ pub fn infer(alloc: Global, g: &Graph) -> Result<Certificate, NoMemory>
     ensures few { IfOk result (λ c. length c.alternatives ≤ CANDIDATES) }
     ensures one { IfOk result (λ c. length c.alternatives ≤ 1) }
     ensures rows { IfOk result (λ c. AllByRecursion (AreEntryRows g.now) (condition_of c)) }
+    ensures needed { IfOk result (λ c. AllByRecursion (HasNeeds g.now) c.alternatives) }
     ensures none { IfOk result (λ c. c.alternatives ≡ [] → HasNone g.now) }
     ensures exact { IfOk result (IsExact g.now) }
 {

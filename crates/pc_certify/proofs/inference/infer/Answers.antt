@@ -3,8 +3,8 @@ use Rattle.std.specs.List.{AllByRecursion}
 use Rattle.pc_cert.specs.Certificate.{Certificate, IsShowable, condition_of}
 use Rattle.pc_replay.specs.Accepts.{Accepts}
 use Rattle.pc_replay.proofs.Sound.{accepted_is_safe}
-use Rattle.pc_certify.specs.Inferring.{IsExact, AreEntryRows}
-use Rattle.pc_certify.proofs.Choosing.{is_accepted, is_showable, is_exact, are_entry_rows}
+use Rattle.pc_certify.specs.Inferring.{IsExact, AreEntryRows, HasNeeds}
+use Rattle.pc_certify.proofs.Choosing.{is_accepted, is_showable, is_exact, are_entry_rows, have_needs}
 use Rattle.pc_certify.proofs.inference.infer.Goals as goal
 
 pub returns-clause-accepted : goal.returns-clause-accepted
@@ -27,6 +27,12 @@ returns-clause-rows c =
     let g = c.args.g.now in
     subst (λ (z : Certificate). AllByRecursion (AreEntryRows g) (condition_of z)) (sym c.claim.ensures.value)
     (are_entry_rows g c.in_ok-alternatives.field-0 c.in_ok-alternatives.ensures)
+
+pub returns-clause-needed : goal.returns-clause-needed
+returns-clause-needed c =
+    let g = c.args.g.now in
+    subst (λ (z : Certificate). AllByRecursion (HasNeeds g) z.alternatives) (sym c.claim.ensures.value)
+    (have_needs g c.in_ok-alternatives.field-0 c.in_ok-alternatives.ensures)
 
 pub returns-clause-exact : goal.returns-clause-exact
 returns-clause-exact c =
