@@ -9,27 +9,27 @@ use Rattle.pc_text.specs.declared.place.Place.{Place}
 use Rattle.pc_rows.specs.Linear.{Linear, State, value, Meets, MeetsAll, MeetsSome, IsOver}
 use Rattle.pc_rows.specs.declared.row.TheConstants.{VARIABLES}
 use Rattle.pc_rows.specs.declared.rows.TheConstants.{ROWS}
-use Rattle.pc_syntax.specs.declared.limits.TheConstants.{EDGES}
-use Rattle.pc_syntax.specs.declared.program.Program.{Program}
-use Rattle.pc_syntax.specs.Loops.{first, whiles_of}
-use Rattle.pc_syntax.specs.Sane.{is_sane, sane_stmts, edges_of}
-use Rattle.pc_syntax.proofs.Results.{and_is}
+use Rattle.pc_language.specs.declared.limits.TheConstants.{EDGES}
+use Rattle.pc_program.specs.declared.program.Program.{Program}
+use Rattle.pc_program.specs.Loops.{first, whiles_of}
+use Rattle.pc_program.specs.Sane.{is_sane, sane_stmts, edges_of}
+use Rattle.pc_program.proofs.Results.{and_is}
 use Rattle.pc_graph.specs.Lowering.{graph}
 use Rattle.pc_graph.proofs.LoopFree.{loop_free_graphs}
 use Rattle.pc_lower.specs.Annotation.{NoHeads}
-use Rattle.pc_cert.specs.declared.certificate.Annotated.{Annotated}
-use Rattle.pc_cert.specs.Certificate.{Certificate, entry_rows, condition_of, SaysOf}
+use Rattle.pc_certificate.specs.declared.certificate.Annotated.{Annotated}
+use Rattle.pc_certificate.specs.Certificate.{Certificate, entry_rows, condition_of, SaysOf}
 use Rattle.pc_text.specs.Bytes.{Bytes}
 use Rattle.pc_cert.specs.CertificateTexts.{IsTextOf}
 use Rattle.pc_cert.proofs.ShortTexts.{texts_are_short}
 use Rattle.pc_cert.proofs.WholeReading.{each_of}
-use Rattle.pc_graph.proofs.Lists.{each_more}
+use Rattle.pc_flow.proofs.Lists.{each_more}
 use Rattle.pc_replay.specs.Accepts.{Accepts, AlternativeProved}
 use Rattle.pc_replay.specs.Rule.{rows_at}
 use Rattle.pc_replay.specs.Shape.{IsShaped}
-use Rattle.pc_replay.proofs.Sound.{accepted_programs_are_safe}
+use Rattle.pc_app.proofs.Programs.{accepted_programs_are_safe}
 use Rattle.pc_certify.specs.Inferring.{IsExact, AreEntryRows}
-use Rattle.pc_certify.proofs.Exactness.{infer_is_exact}
+use Rattle.pc_app.proofs.Programs.{infer_is_exact}
 use Rattle.pc_app.specs.declared.answer.Answer.{Answer}
 use Rattle.pc_app.specs.declared.status.TheConstants.{REFUSED}
 use Rattle.pc_app.specs.Answers.{AnalysisAnswers}

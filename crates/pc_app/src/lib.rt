@@ -4,6 +4,7 @@
 mod answer;
 mod files;
 mod infer;
+mod laws;
 mod limits;
 mod malformed;
 mod refusal;
@@ -18,6 +19,7 @@ mod tests;
 mod verdict;
 mod words;
 
+pub use laws::{accepted_programs_are_safe, infer_is_exact};
 pub use limits::{ALTERNATIVES, CERTIFICATE_BYTES, SCRIPT_BYTES, SOURCE_BYTES};
 pub use service::serve;
 pub use status::{

@@ -9,9 +9,9 @@ use Rattle.pc_rows.specs.declared.system.TheConstants.{PREMISES}
 use Rattle.pc_rows.specs.Linear.{Linear}
 use Rattle.pc_rows.specs.Evidence.{Proof, IsProof}
 use Rattle.pc_text.specs.Bytes.{Bytes}
-use Rattle.pc_cert.specs.declared.certificate.Annotated.{Annotated}
-use Rattle.pc_cert.specs.declared.certificate.Sizes.{Sizes}
-use Rattle.pc_cert.specs.declared.certificate.TheConstants.{ALTERNATIVES}
+use Rattle.pc_certificate.specs.declared.certificate.Annotated.{Annotated}
+use Rattle.pc_cert.specs.declared.sizes.Sizes.{Sizes}
+use Rattle.pc_certificate.specs.declared.certificate.TheConstants.{ALTERNATIVES}
 use Rattle.pc_cert.specs.Words.{Words, is_word}
 use Rattle.pc_cert.specs.Faults.{Row, Point, Edge, Next, Proof as ProofLine}
 use Rattle.pc_cert.specs.Readers.{◌>>=◌, Unread, repeated, row_value, proof_value, row_reader, point_reader, proof_reader, edge_reader, annotated_reader, goes_on, begins}

@@ -22,7 +22,6 @@ pub mod FaultReading
 pub mod CertificateFaults
 pub mod PlainLines
 pub mod Meaning
-pub mod EntryRows
 pub mod Told
 pub mod Splits
 pub mod Decimals

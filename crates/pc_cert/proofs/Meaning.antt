@@ -7,7 +7,7 @@ use Rattle.std.proofs.lemmas.List.Splits.{join_with_byte-slice_split, length-sli
 use Rattle.pc_text.specs.Bytes.{Bytes}
 use Rattle.pc_text.specs.Places.{is_line_feed}
 use Rattle.pc_cert.specs.declared.fault.CertFault.{CertFault}
-use Rattle.pc_cert.specs.Certificate.{Certificate}
+use Rattle.pc_certificate.specs.Certificate.{Certificate}
 use Rattle.pc_cert.specs.Words.{Words}
 use Rattle.pc_cert.specs.Faults.{all_but_last, last_of, ended_lines, tail_of, fault_of}
 use Rattle.pc_cert.specs.Readers.{Unread, unread, certificate_reader, certificate_of}

@@ -12,10 +12,11 @@ use Rattle.pc_rows.specs.declared.system.TheConstants.{PREMISES}
 use Rattle.pc_rows.specs.Linear.{Linear, InRange, AllInRange, IsRow}
 use Rattle.pc_rows.specs.Joins.{IsRows}
 use Rattle.pc_rows.specs.Evidence.{Proof, IsPart, IsProof, IsRising}
-use Rattle.pc_cert.specs.declared.certificate.Annotated.{Annotated}
-use Rattle.pc_cert.specs.declared.certificate.TheConstants.{POINTS, EDGES}
+use Rattle.pc_certificate.specs.declared.certificate.Annotated.{Annotated}
+use Rattle.pc_certificate.specs.declared.certificate.TheConstants.{POINTS}
+use Rattle.pc_language.specs.declared.limits.TheConstants.{EDGES}
 use Rattle.pc_cert.specs.Words.{Words}
-use Rattle.pc_cert.specs.Certificate.{IsAnnotation, IsAnnotated}
+use Rattle.pc_certificate.specs.Certificate.{IsAnnotation, IsAnnotated}
 use Rattle.pc_cert.specs.Lengths.{alternative_bytes, TextsAreShort}
 use Rattle.pc_cert.specs.CertificateTexts.{counts, row_line, proof_line, point_lines, edge_lines, numbered, alternative_lines, line_text, lines_text}
 use Rattle.pc_cert.proofs.RowSpelling.{range_of_front}

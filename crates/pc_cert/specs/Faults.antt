@@ -9,8 +9,9 @@ use Rattle.pc_text.specs.Bytes.{Bytes}
 use Rattle.pc_text.specs.Digits.{natural_of}
 use Rattle.pc_text.specs.Numerals.{integer_of}
 use Rattle.pc_text.specs.Places.{is_line_feed}
-use Rattle.pc_cert.specs.declared.certificate.TheConstants.{POINTS, EDGES, ALTERNATIVES}
-use Rattle.pc_cert.specs.declared.certificate.Sizes.{Sizes}
+use Rattle.pc_certificate.specs.declared.certificate.TheConstants.{POINTS, ALTERNATIVES}
+use Rattle.pc_language.specs.declared.limits.TheConstants.{EDGES}
+use Rattle.pc_cert.specs.declared.sizes.Sizes.{Sizes}
 use Rattle.pc_cert.specs.declared.fault.CertFault.{CertFault}
 use Rattle.pc_cert.specs.declared.fault.CertFault.TheVariants as fault
 use Rattle.pc_cert.specs.Words.{Words, words, is_empty, is_numeral, are_numerals, are_counts, are_pairs, is_named, is_word, number_at}

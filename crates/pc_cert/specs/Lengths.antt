@@ -1,6 +1,6 @@
 -- How long the text of a certificate may be.
 use Rattle.std.specs.Prelude.{ℕ, ◌+◌, ◌*◌, ◌^◌, ◌≤◌, length}
-use Rattle.pc_cert.specs.Certificate.{Certificate, IsShowable, IsCertificate}
+use Rattle.pc_certificate.specs.Certificate.{Certificate, IsShowable, IsCertificate}
 use Rattle.pc_cert.specs.CertificateTexts.{certificate_text}
 
 -- what no alternative is longer than

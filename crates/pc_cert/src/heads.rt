@@ -5,9 +5,10 @@ ghost use Rattle.pc_cert.specs.Counts as spec;
 ghost use Rattle.pc_cert.specs.Faults.{Version, Graph, Next, sizes_of};
 ghost use Rattle.pc_cert.specs.Readers.{line_value, goes_on, head_value};
 ghost use Rattle.pc_cert.specs.Words.{words};
-ghost use Rattle.pc_cert.specs.declared.certificate.Sizes.{Sizes};
+ghost use Rattle.pc_cert.specs.declared.sizes.Sizes.{Sizes};
 
-use crate::certificate::{ALTERNATIVES, Sizes};
+use pc_certificate::ALTERNATIVES;
+use crate::sizes::Sizes;
 use crate::fault::CertFault;
 use crate::words::{Words, count_of};
 

@@ -8,14 +8,14 @@ use Rattle.pc_rows.specs.Joins.{is_at_most}
 use Rattle.pc_rows.specs.Substitution.{carried, lesser}
 use Rattle.pc_rows.proofs.Bounding.{product_within, sum_within, opposite_within, lesser_within, within_in_range, more_within, scale_within, add_within, negate_within, at_within, set_within, small_substitution_fits}
 use Rattle.pc_rows.proofs.Joining.{each_join}
-use Rattle.pc_syntax.specs.Machine.{end_of}
+use Rattle.pc_language.specs.Ends.{end_of}
 use Rattle.pc_elim.proofs.SmallRows.{row_more, row_in_range}
-use Rattle.pc_graph.specs.declared.what.What.{What}
-use Rattle.pc_graph.specs.declared.what.What.TheVariants.{Enter, Test, Set, Check}
-use Rattle.pc_graph.specs.Arc.{Arc}
-use Rattle.pc_graph.specs.Carry.{BackFits, back, test_rows}
-use Rattle.pc_graph.specs.Flow.{Flow}
-use Rattle.pc_graph.specs.Lists.{AnyOf}
+use Rattle.pc_flow.specs.declared.what.What.{What}
+use Rattle.pc_flow.specs.declared.what.What.TheVariants.{Enter, Test, Set, Check}
+use Rattle.pc_flow.specs.Arc.{Arc}
+use Rattle.pc_flow.specs.Carry.{BackFits, back, test_rows}
+use Rattle.pc_flow.specs.Flow.{Flow}
+use Rattle.pc_flow.specs.Lists.{AnyOf}
 use Rattle.pc_lower.specs.Annotation.{rows_at, no_rows, NoHeads}
 use Rattle.pc_lower.specs.Need.{need}
 use Rattle.pc_lower.specs.Tame.{tame_bound, HasTameNumbers, AreTame, IsTame}

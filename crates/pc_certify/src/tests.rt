@@ -4,7 +4,8 @@ ghost use Rattle.std.specs.Prelude.{◌<◌, ◌-◌, ◌^◌, length, IfOk};
 ghost use Rattle.pc_lower.specs.Laws.{IsComplete};
 
 use crate::annotation::prove;
-use pc_graph::{Graph, lower};
+use pc_flow::Graph;
+use pc_graph::lower;
 use pc_lower::{Annotation, complete, no_rows};
 use pc_syntax::read;
 use std::alloc::Global;

@@ -1,12 +1,14 @@
 //! Graphs, by example.
 
-use crate::backward::{back, entry_row};
-use crate::edge::Edge;
-use crate::graph::Graph;
+use pc_flow::{back, entry_row};
+use pc_flow::Edge;
+use pc_flow::Graph;
 use crate::lowering::lower;
-use crate::what::What;
+use pc_flow::What;
 use pc_rows::Row;
-use pc_syntax::{Bound, first_loop, read};
+use pc_language::Bound;
+use pc_program::first_loop;
+use pc_syntax::read;
 use pc_text::Place;
 use std::alloc::{AllocError, Global};
 use std::test::Fail;

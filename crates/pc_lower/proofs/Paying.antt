@@ -8,19 +8,19 @@ use Rattle.pc_rows.specs.Joins.{is_covered, with_row, joined}
 use Rattle.pc_rows.proofs.Carrying.{substitution_is_exact}
 use Rattle.pc_rows.proofs.First.{value_of_first}
 use Rattle.pc_rows.proofs.Joining.{covered_is_met, each_join, each_left, each_right}
-use Rattle.pc_syntax.specs.Machine.{end_of}
-use Rattle.pc_syntax.specs.Values.{State}
-use Rattle.pc_graph.specs.declared.point.PointInfo.{PointInfo}
-use Rattle.pc_graph.specs.declared.what.What.{What}
-use Rattle.pc_graph.specs.declared.what.What.TheVariants.{Enter, Test, Set, Check}
-use Rattle.pc_graph.specs.Arc.{Arc}
-use Rattle.pc_graph.specs.Carry.{back_all, owes, test_rows, HasVariable, Pays}
-use Rattle.pc_graph.specs.Exact.{Annotation}
-use Rattle.pc_graph.specs.Lists.{In}
-use Rattle.pc_graph.specs.Shape.{LeadsUp}
-use Rattle.pc_graph.specs.Walk.{Pass}
-use Rattle.pc_graph.proofs.Lists.{each_at, each_in, in_either}
-use Rattle.pc_graph.proofs.Straights.{has_variable}
+use Rattle.pc_language.specs.Ends.{end_of}
+use Rattle.pc_rows.specs.Linear.{State}
+use Rattle.pc_flow.specs.declared.point.PointInfo.{PointInfo}
+use Rattle.pc_flow.specs.declared.what.What.{What}
+use Rattle.pc_flow.specs.declared.what.What.TheVariants.{Enter, Test, Set, Check}
+use Rattle.pc_flow.specs.Arc.{Arc}
+use Rattle.pc_flow.specs.Carry.{back_all, owes, test_rows, HasVariable, Pays}
+use Rattle.pc_flow.specs.Exact.{Annotation}
+use Rattle.pc_flow.specs.Lists.{In}
+use Rattle.pc_flow.specs.Shape.{LeadsUp}
+use Rattle.pc_flow.specs.Walk.{Pass}
+use Rattle.pc_flow.proofs.Lists.{each_at, each_in, in_either}
+use Rattle.pc_flow.proofs.Assigning.{has_variable}
 use Rattle.pc_lower.specs.Annotation.{rows_at, is_head, NoHeads}
 use Rattle.pc_lower.specs.Need.{asked, leaving, gathered, need}
 use Rattle.pc_lower.specs.Laws.{NeedIsPaid, NeedIsOwed}

@@ -7,13 +7,13 @@ use Rattle.pc_rows.specs.Joins.{joined}
 use Rattle.pc_rows.specs.declared.rows.TheConstants.{ROWS}
 use Rattle.pc_rows.proofs.Bounding.{small_substitution_fits}
 use Rattle.pc_rows.proofs.Joining.{joined-longer, each_join}
-use Rattle.pc_syntax.specs.Machine.{end_of}
-use Rattle.pc_graph.specs.declared.what.What.{What}
-use Rattle.pc_graph.specs.declared.what.What.TheVariants.{Enter, Test, Set, Check}
-use Rattle.pc_graph.specs.Arc.{Arc}
-use Rattle.pc_graph.specs.Exact.{Annotation}
-use Rattle.pc_graph.specs.Flow.{Flow}
-use Rattle.pc_graph.specs.Shape.{IsGraph}
+use Rattle.pc_language.specs.Ends.{end_of}
+use Rattle.pc_flow.specs.declared.what.What.{What}
+use Rattle.pc_flow.specs.declared.what.What.TheVariants.{Enter, Test, Set, Check}
+use Rattle.pc_flow.specs.Arc.{Arc}
+use Rattle.pc_flow.specs.Exact.{Annotation}
+use Rattle.pc_flow.specs.Flow.{Flow}
+use Rattle.pc_flow.specs.Shape.{IsGraph}
 use Rattle.pc_lower.specs.Annotation.{rows_at, NoHeads, no_rows}
 use Rattle.pc_lower.specs.Need.{asked, leaving, gathered, need}
 use Rattle.pc_lower.specs.Operations.{Fits, carries, edges_operations, operations_below, point_operations}

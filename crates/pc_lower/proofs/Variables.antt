@@ -6,16 +6,16 @@ use Rattle.pc_rows.specs.Linear.{Linear, IsOver, first_of}
 use Rattle.pc_rows.specs.Joins.{is_covered, joined}
 use Rattle.pc_rows.proofs.Joining.{each_join, joined_each}
 use Rattle.pc_rows.proofs.Only.{first_is_over, substituted_is_over}
-use Rattle.pc_syntax.specs.Machine.{end_of}
-use Rattle.pc_graph.specs.declared.point.PointInfo.{PointInfo}
-use Rattle.pc_graph.specs.declared.what.What.{What}
-use Rattle.pc_graph.specs.declared.what.What.TheVariants.{Enter, Test, Set, Check}
-use Rattle.pc_graph.specs.Arc.{Arc, arc}
-use Rattle.pc_graph.specs.Carry.{back_all, owes}
-use Rattle.pc_graph.specs.Exact.{Annotation}
-use Rattle.pc_graph.specs.Flow.{Flow}
-use Rattle.pc_graph.specs.Shape.{WhatIsOver, LeadsUp, IsGraph}
-use Rattle.pc_graph.proofs.Entries.{to_start}
+use Rattle.pc_language.specs.Ends.{end_of}
+use Rattle.pc_flow.specs.declared.point.PointInfo.{PointInfo}
+use Rattle.pc_flow.specs.declared.what.What.{What}
+use Rattle.pc_flow.specs.declared.what.What.TheVariants.{Enter, Test, Set, Check}
+use Rattle.pc_flow.specs.Arc.{Arc, arc}
+use Rattle.pc_flow.specs.Carry.{back_all, owes}
+use Rattle.pc_flow.specs.Exact.{Annotation}
+use Rattle.pc_flow.specs.Flow.{Flow}
+use Rattle.pc_flow.specs.Shape.{WhatIsOver, LeadsUp, IsGraph}
+use Rattle.pc_flow.proofs.Entries.{to_start}
 use Rattle.pc_lower.specs.Annotation.{rows_at, AreOver, is_head}
 use Rattle.pc_lower.specs.Need.{asked, leaving, gathered, needed_at, at_heads, filled, filled_below, need}
 use Rattle.pc_lower.specs.Laws.{NeedIsComplete}

@@ -9,10 +9,10 @@ use Rattle.pc_rows.specs.Substitution.{lesser, ConstantFits, CoefficientsFit, Ca
 use Rattle.pc_rows.specs.Evidence.{Proof}
 use Rattle.pc_rows.specs.Shows.{times_premise, PartsFit, TotalFits}
 use Rattle.pc_rows.proofs.Ranges.{and_is, in_is, is_in, to_test, from_test, in_all, all_in}
-use Rattle.pc_syntax.specs.Machine.{end_of}
-use Rattle.pc_graph.specs.declared.what.What.{What}
-use Rattle.pc_graph.specs.declared.what.What.TheVariants.{Enter, Test, Set, Check}
-use Rattle.pc_graph.specs.Carry.{BackFits}
+use Rattle.pc_language.specs.Ends.{end_of}
+use Rattle.pc_flow.specs.declared.what.What.{What}
+use Rattle.pc_flow.specs.declared.what.What.TheVariants.{Enter, Test, Set, Check}
+use Rattle.pc_flow.specs.Carry.{BackFits}
 use Rattle.pc_replay.specs.Ranges.{constant_fits, coefficients_fit, substitute_fits, back_fits, parts_fit, total_fits}
 use Rattle.pc_replay.proofs.Alls.{matched_if, if_matched}
 

@@ -10,26 +10,24 @@ use Rattle.pc_rows.proofs.Carrying.{substitution_is_exact}
 use Rattle.pc_rows.proofs.Farkas.{shown_is_met}
 use Rattle.pc_rows.proofs.First.{value_of_first, value_at_entry, zero_from_all}
 use Rattle.pc_rows.proofs.Joining.{each_left, each_right, each_join}
-use Rattle.pc_syntax.specs.Machine.{end_of}
-use Rattle.pc_syntax.specs.Values.{State}
-use Rattle.pc_graph.specs.Arc.{Arc}
-use Rattle.pc_graph.specs.declared.what.What.{What}
-use Rattle.pc_graph.specs.declared.what.What.TheVariants.{Enter, Test, Set, Check}
-use Rattle.pc_graph.specs.Carry.{back, test_rows, HasVariable, Pays}
-use Rattle.pc_graph.specs.Flow.{Flow}
-use Rattle.pc_graph.specs.Lists.{In}
-use Rattle.pc_graph.specs.Shape.{IsGraph}
-use Rattle.pc_graph.specs.Walk.{Pass, IsEntry, entered, GraphSafe}
-use Rattle.pc_graph.proofs.Bridge.{steps_correspond}
-use Rattle.pc_graph.proofs.Closed.{paid_is_safe}
-use Rattle.pc_graph.proofs.Graphs.{graph_kept}
-use Rattle.pc_graph.proofs.Lists.{each_at}
-use Rattle.pc_cert.specs.declared.certificate.Annotated.{Annotated}
-use Rattle.pc_cert.specs.Certificate.{entry_rows}
-use Rattle.pc_graph.proofs.Straights.{has_variable}
+use Rattle.pc_language.specs.Ends.{end_of}
+use Rattle.pc_rows.specs.Linear.{State}
+use Rattle.pc_flow.specs.Arc.{Arc}
+use Rattle.pc_flow.specs.declared.what.What.{What}
+use Rattle.pc_flow.specs.declared.what.What.TheVariants.{Enter, Test, Set, Check}
+use Rattle.pc_flow.specs.Carry.{back, test_rows, HasVariable, Pays}
+use Rattle.pc_flow.specs.Flow.{Flow}
+use Rattle.pc_flow.specs.Lists.{In}
+use Rattle.pc_flow.specs.Shape.{IsGraph}
+use Rattle.pc_flow.specs.Walk.{Pass, IsEntry, entered, GraphSafe}
+use Rattle.pc_flow.proofs.Closed.{paid_is_safe}
+use Rattle.pc_flow.proofs.Lists.{each_at}
+use Rattle.pc_certificate.specs.declared.certificate.Annotated.{Annotated}
+use Rattle.pc_certificate.specs.Certificate.{entry_rows}
+use Rattle.pc_flow.proofs.Assigning.{has_variable}
 use Rattle.pc_replay.specs.Accepts.{RowProved, EdgeProved, AlternativeProved}
 use Rattle.pc_replay.specs.Flaws.{asked}
-use Rattle.pc_replay.specs.Laws.{AcceptedIsSafe, AcceptedProgramsAreSafe}
+use Rattle.pc_replay.specs.Laws.{AcceptedIsSafe}
 use Rattle.pc_replay.specs.Rule.{rows_at, premises}
 use Rattle.pc_replay.specs.Shape.{IsShaped}
 use Rattle.pc_replay.proofs.Ruled.{owed_is_asked}
@@ -131,6 +129,3 @@ pub accepted_is_safe : AcceptedIsSafe
 accepted_is_safe g c kept accepts s entry m =
     some_safe g kept s entry c.points c.variables c.alternatives
     (subst (λ n. AllByRecursion (IsShaped c.points n c.variables) c.alternatives) accepts.shape.edges accepts.shape.each) accepts.each m
-
-pub accepted_programs_are_safe : AcceptedProgramsAreSafe
-accepted_programs_are_safe p c accepts s entry m = (steps_correspond p s entry).safe.1 (accepted_is_safe _ c (graph_kept p) accepts s entry m)

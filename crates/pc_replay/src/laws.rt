@@ -1,6 +1,6 @@
 //! What the rule of the replayer promises, as contracts of functions that do nothing.
 
-ghost use Rattle.pc_replay.specs.Laws.{RuleIsMeant, FlawsAreMeant, OwedIsAsked, AcceptedIsSafe, AcceptedProgramsAreSafe};
+ghost use Rattle.pc_replay.specs.Laws.{RuleIsMeant, FlawsAreMeant, OwedIsAsked, AcceptedIsSafe};
 
 /// The rule accepts exactly where nothing is wrong, and its tests say what is meant.
 pub fn rule_is_meant()
@@ -13,10 +13,4 @@ pub fn rule_is_meant()
 /// the certificate's condition.
 pub fn accepted_is_safe()
     ensures { AcceptedIsSafe }
-{}
-
-/// Where a certificate is right for a program's graph, the program is safe from every entry state
-/// that meets the certificate's condition.
-pub fn accepted_programs_are_safe()
-    ensures { AcceptedProgramsAreSafe }
 {}

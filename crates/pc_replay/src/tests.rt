@@ -4,8 +4,9 @@ ghost use Rattle.std.specs.Prelude.{◌<◌, ◌-◌, ◌^◌, length};
 
 use crate::replay::accept;
 use crate::ruling::Ruling;
-use pc_cert::Certificate;
-use pc_graph::{Graph, lower};
+use pc_certificate::Certificate;
+use pc_flow::Graph;
+use pc_graph::lower;
 use pc_syntax::read;
 use sqlite_items::Items;
 use std::alloc::Global;

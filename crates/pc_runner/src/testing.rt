@@ -1,11 +1,12 @@
 //! Comparisons and tests at a state.
 
 ghost use Rattle.std.specs.Prelude.{◌≡◌};
-ghost use Rattle.pc_syntax.specs.Values as values;
+ghost use Rattle.pc_program.specs.Values as values;
 ghost use Rattle.pc_runner.specs.Checked as spec;
 
 use crate::evaluation::value_of;
-use pc_syntax::{Compare, Op, Test};
+use pc_program::{Compare, Test};
+use pc_language::Op;
 use pc_text::Place;
 
 fn compared(op: Op, a: i128, b: i128) -> bool

@@ -7,8 +7,8 @@ ghost use Rattle.pc_syntax.specs.Faults.{Gives};
 ghost use Rattle.pc_syntax.specs.Trees.{fit_each, fit_test, fit_stmt, fit_stmts};
 
 use crate::fault::SourceFault;
-use crate::limits::EDGES;
-use crate::tree::Stmt;
+use pc_language::EDGES;
+use pc_program::Stmt;
 use crate::walk::names::resolved;
 use crate::walk::tests::{conjunction, right, test, test_edges};
 use crate::walk::{Counted, CountedList};

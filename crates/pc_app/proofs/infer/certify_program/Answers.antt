@@ -1,5 +1,5 @@
 use Rattle.std.proofs.Common.{◌≡◌, None, rules, refl, sym, ◌∙◌}
-use Rattle.pc_syntax.specs.Loops.{first, whiles_of}
+use Rattle.pc_program.specs.Loops.{first, whiles_of}
 use Rattle.pc_app.specs.Answers.{CertifyAnswers}
 use Rattle.pc_app.specs.Answers.AnalysisAnswers.{IsAnalysed}
 use Rattle.pc_app.proofs.InferLemmas.{short_text, not_built_yet}
