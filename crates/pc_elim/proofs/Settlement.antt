@@ -141,10 +141,12 @@ module _ (w : ℕ) (start : List Made) where
         let e = sym is ∙ found.1 in
         (record { levels = found.0; point = subst (PointFits w start) e tt }, ap (settled_by w start) e)
 
-    pub point_settles : (p : Point) → o ≡ None → BackFits w start (origin w) × (p ≡ taken_back w start (origin w)) → SettleFits w start × (At p ≡ settle w start)
-    point_settles p is h =
+    pub point_settles : (from p : Point) → o ≡ None → from ≡ origin w → BackFits w start from × (p ≡ taken_back w start from) → SettleFits w start × (At p ≡ settle w start)
+    point_settles from p is at h =
         let e = sym is ∙ found.1 in
-        (record { levels = found.0; point = subst (PointFits w start) e h.0 }, ap At h.1 ∙ ap (settled_by w start) e)
+        let back = subst (λ (q : Point). BackFits w start q × (p ≡ taken_back w start q)) at h in
+        (record { levels = found.0; point = subst (PointFits w start) e back.0 }, ap At back.1 ∙ ap (settled_by w start) e)
 
-    pub point_fails : (e : Fault) → o ≡ None → FaultIs (BackFits w start (origin w)) e → FaultIs (SettleFits w start) e
-    point_fails e is h = fault_moves (BackFits w start (origin w)) (SettleFits w start) e (λ f. subst (PointFits w start) (sym (sym is ∙ found.1)) f.point) h
+    pub point_fails : (from : Point) (e : Fault) → o ≡ None → from ≡ origin w → FaultIs (BackFits w start from) e → FaultIs (SettleFits w start) e
+    point_fails from e is at h = fault_moves (BackFits w start from) (SettleFits w start) e
+        (λ f. subst (BackFits w start) (sym at) (subst (PointFits w start) (sym (sym is ∙ found.1)) f.point)) h
