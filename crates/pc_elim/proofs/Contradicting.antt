@@ -48,10 +48,6 @@ pub flat_some : (f : Made → List Made) (xs : List Made) (i : ℕ) (x : Made) (
     Some ms ≡ contradiction_of (f x) → Some ms ≡ contradiction_of (flat f xs)
 flat_some f xs i x ms lt at h e = sym (at_some (f x) (flat f (drop (i + 1) xs)) ms (sym e)) ∙ sym (ap contradiction_of (flat_next f xs i x lt at)) ∙ h
 
-pub flat_fails : (f : Made → List Made) (F : Made → Type 0) (xs : List Made) (i : ℕ) (x : Made) (e : Fault) → i < length xs → x ≡ get_or xs i x →
-    FaultIs (F x) e → FaultIs (AllByRecursion F xs) e
-flat_fails f F xs i x e lt at h = fault_moves (F x) (AllByRecursion F xs) e (all_at F xs i x lt at) h
-
 -- the loop over places
 
 module _ (k : ℕ) (p : Made) (all : List Made) (below : List ℕ) (are : below ≡ places_below k 0 all) where

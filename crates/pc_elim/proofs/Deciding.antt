@@ -138,9 +138,6 @@ answer_decides s (Err e) h g = tt
 pub past_goal_not_modest : (s : System) → (IsInRange (negation s.goal) → ⊥) → IsModest s → ⊥
 past_goal_not_modest s h m = h (modest_decision_fits s m).negated_goal
 
-pub past_goal_unfit : (s : System) → (IsInRange (negation s.goal) → ⊥) → DecisionFits s → ⊥
-past_goal_unfit s h fits = h fits.negated_goal
-
 -- what is settled is the answer
 
 shown_by : (w : ℕ) (rows : List Made) (ms : List ℤ) (o : Option (List ℤ)) → settled_by w rows o ≡ Shown ms → o ≡ Some ms

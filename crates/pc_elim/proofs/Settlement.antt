@@ -39,12 +39,6 @@ level_most : (k : ℕ) (start : List Made) → length start ≤ LIMIT → LevelF
 level_most zero start most h = most
 level_most (suc k) start most h = h.1.1
 
-pub level_next : (j : ℕ) (start rows new : List Made) → rows ≡ level j start → LevelFits j start → EliminationFits j rows × (new ≡ eliminated j rows) → LevelFits (j + 1) start × (new ≡ level (j + 1) start)
-level_next j start rows new is h g =
-    let e : suc j ≡ j + 1 = omega arith in
-    subst (λ (n : ℕ). LevelFits n start × (new ≡ level n start)) e
-    ((h, subst (EliminationFits j) is g.0), g.1 ∙ ap (eliminated j) is)
-
 pub level_fails : (k j : ℕ) (start rows : List Made) (e : Fault) → j < k → rows ≡ level j start → FaultIs (EliminationFits j rows) e → FaultIs (LevelFits k start) e
 level_fails k j start rows e lt is h = fault_moves (EliminationFits j rows) (LevelFits k start) e (λ f. subst (EliminationFits j) (sym is) (fits_at k j start lt f)) h
 
@@ -90,63 +84,22 @@ module _ (k j : ℕ) (start : List Made) (next : k ≡ suc j) where
       (λ f. subst (EliminationFits j) (sym is.1) (fits_before f).1)
       (λ f. fits_after (is.0, subst (EliminationFits j) is.1 f)) h
 
-  -- a point is taken back over it
-  module _ (p : Point) where
-    back_is : taken_back k start p ≡ taken_back j start (placed j (level j start) p)
-    back_is = ap (λ (n : ℕ). taken_back n start p) next
-
-    back_before : BackFits k start p → PlacedFits j (level j start) p × BackFits j start (placed j (level j start) p)
-    back_before h = subst (λ (n : ℕ). BackFits n start p) next h
-
-    back_after : PlacedFits j (level j start) p × BackFits j start (placed j (level j start) p) → BackFits k start p
-    back_after h = subst (λ (n : ℕ). BackFits n start p) (sym next) h
-
-    pub back_comes : (q : Point) (r : Result Point Fault) → PlacedFits j (level j start) p × (q ≡ placed j (level j start) p) → SettleIs (taken_back j start q) (BackFits j start q) r → SettleIs (taken_back k start p) (BackFits k start p) r
-    back_comes q r is h =
-        settle_moves (taken_back j start q) (taken_back k start p) (BackFits j start q) (BackFits k start p) r
-        (ap (taken_back j start) is.1 ∙ sym back_is)
-        (λ f. subst (BackFits j start) (sym is.1) (back_before f).1)
-        (λ f. back_after (is.0, subst (BackFits j start) is.1 f)) h
-
-    pub back_stops : (e : Fault) → FaultIs (PlacedFits j (level j start) p) e → FaultIs (BackFits k start p) e
-    back_stops e h = fault_moves (PlacedFits j (level j start) p) (BackFits k start p) e (λ f. (back_before f).0) h
-
-pub last_none : (k : ℕ) (start : List Made) (c : Option (List ℤ)) → k ≡ 0 → c ≡ contradiction_of start → LevelFits k start × (c ≡ contradiction_of (level k start))
-last_none k start c none e = subst (λ (n : ℕ). LevelFits n start × (c ≡ contradiction_of (level n start))) (sym none) (tt, e)
-
-pub back_none : (k : ℕ) (start : List Made) (p : Point) → k ≡ 0 → BackFits k start p × (p ≡ taken_back k start p)
-back_none k start p none = subst (λ (n : ℕ). BackFits n start p × (p ≡ taken_back n start p)) (sym none) (tt, refl)
-
 -- one variable on the way back
 
-module _ (k : ℕ) (start : List Made) (p : Point) where
-  pub free_comes : has_variable k start ≡ false → PlacedFits k (level k start) p × (p ≡ placed k (level k start) p)
-  free_comes none = let q = free_placed k (level k start) p (free_level k k start (all_free k start none)) in (q.0, sym q.1)
+pub free_comes : (k : ℕ) (start : List Made) (p : Point) → has_variable k start ≡ false → PlacedFits k (level k start) p × (p ≡ placed k (level k start) p)
+free_comes k start p none = let q = free_placed k (level k start) p (free_level k k start (all_free k start none)) in (q.0, sym q.1)
 
-  pub placed_comes : (q : Point) (rows : List Made) → rows ≡ level k start → PlacedFits k rows p × (q ≡ placed k rows p) → PlacedFits k (level k start) p × (q ≡ placed k (level k start) p)
-  placed_comes q rows is h = subst (λ (z : List Made). PlacedFits k z p × (q ≡ placed k z p)) is h
+-- the whole, where no contradiction is found
 
-  pub placed_fails : (rows : List Made) → rows ≡ level k start → (PlacedFits k rows p → ⊥) → PlacedFits k (level k start) p → ⊥
-  placed_fails rows is h f = h (subst (λ (z : List Made). PlacedFits k z p) (sym is) f)
+module _ (w : ℕ) (start : List Made) (o : Option (List ℤ)) (found : LevelFits w start × (o ≡ contradiction_of (level w start))) where
+  none_is : o ≡ None → None ≡ contradiction_of (level w start)
+  none_is is = sym is ∙ found.1
 
--- the whole
+  pub point_settles : (from p : Point) → o ≡ None → from ≡ origin w → BackFits w start from × (p ≡ taken_back w start from) → SettleFits w start × (At p ≡ settle w start)
+  point_settles from p is at h =
+      let back = subst (λ (q : Point). BackFits w start q × (p ≡ taken_back w start q)) at h in
+      (record { levels = found.0; point = subst (PointFits w start) (none_is is) back.0 }, ap At back.1 ∙ ap (settled_by w start) (none_is is))
 
-module _ (w : ℕ) (start : List Made) where
-  pub settle_stops : (e : Fault) → FaultIs (LevelFits w start) e → FaultIs (SettleFits w start) e
-  settle_stops e h = fault_moves (LevelFits w start) (SettleFits w start) e (λ f. f.levels) h
-
-  module _ (o : Option (List ℤ)) (found : LevelFits w start × (o ≡ contradiction_of (level w start))) where
-    pub shown_settles : (ms : List ℤ) → o ≡ Some ms → SettleFits w start × (Shown ms ≡ settle w start)
-    shown_settles ms is =
-        let e = sym is ∙ found.1 in
-        (record { levels = found.0; point = subst (PointFits w start) e tt }, ap (settled_by w start) e)
-
-    pub point_settles : (from p : Point) → o ≡ None → from ≡ origin w → BackFits w start from × (p ≡ taken_back w start from) → SettleFits w start × (At p ≡ settle w start)
-    point_settles from p is at h =
-        let e = sym is ∙ found.1 in
-        let back = subst (λ (q : Point). BackFits w start q × (p ≡ taken_back w start q)) at h in
-        (record { levels = found.0; point = subst (PointFits w start) e back.0 }, ap At back.1 ∙ ap (settled_by w start) e)
-
-    pub point_fails : (from : Point) (e : Fault) → o ≡ None → from ≡ origin w → FaultIs (BackFits w start from) e → FaultIs (SettleFits w start) e
-    point_fails from e is at h = fault_moves (BackFits w start from) (SettleFits w start) e
-        (λ f. subst (BackFits w start) (sym at) (subst (PointFits w start) (sym (sym is ∙ found.1)) f.point)) h
+  pub point_fails : (from : Point) (e : Fault) → o ≡ None → from ≡ origin w → FaultIs (BackFits w start from) e → FaultIs (SettleFits w start) e
+  point_fails from e is at h = fault_moves (BackFits w start from) (SettleFits w start) e
+      (λ f. subst (BackFits w start) (sym at) (subst (PointFits w start) (sym (none_is is)) f.point)) h

@@ -30,21 +30,25 @@ DecideIs s (Err e) = Unit {0}
 unfoldable pub start : System → List Made
 start s = started PARTS (refuting s)
 
--- the first contradiction among the rows without variables
+-- all variables are eliminated in order: the first row below 0 among those that are left
 unfoldable pub contradiction : System → Option (List ℤ)
 contradiction s = contradiction_of (level VARIABLES (start s))
 
--- its multipliers show the goal; where there is none, the origin is taken back over all variables
+-- its multipliers show the goal; where there is none, the origin is taken back over the variables from the last to the first
 abbrev pub answer_by : System → Option (List ℤ) → Answer
 answer_by s (Some ms) = Shown (proof_of (length s.premises) ms)
 answer_by s None = Point (taken_back VARIABLES (start s) (origin VARIABLES))
 
--- the numbers of the evidence are in range
+-- what elimination over unbounded integers and without a limit answers: never Unsettled
+abbrev pub answer : System → Answer
+answer s = answer_by s (contradiction s)
+
+-- the numbers that the evidence takes are in range: those of the proof's total, or those of the way back
 abbrev pub EvidenceFits : System → Option (List ℤ) → Type 0
 EvidenceFits s (Some ms) = TotalFits s.premises s.goal (proof_of (length s.premises) ms)
 EvidenceFits s None = BackFits VARIABLES (start s) (origin VARIABLES)
 
--- all numbers of the elimination are in range, and no variable's makes more rows than there may be
+-- no elimination makes more than LIMIT rows, and all numbers that the answer takes are in range
 pub record DecisionFits (s : System) : Type 0 where
   pub negated_goal : IsInRange (negation s.goal)
   pub levels : LevelFits VARIABLES (start s)
@@ -52,8 +56,8 @@ pub record DecisionFits (s : System) : Type 0 where
 
 -- the answer of elimination, and Unsettled exactly where it does not fit; want of memory is free
 abbrev pub AnswerIs : System → Result Answer NoMemory → Type 0
-AnswerIs s (Ok (Shown p)) = DecisionFits s × (Shown p ≡ answer_by s (contradiction s))
-AnswerIs s (Ok (Point p)) = DecisionFits s × (Point p ≡ answer_by s (contradiction s))
+AnswerIs s (Ok (Shown p)) = DecisionFits s × (Shown p ≡ answer s)
+AnswerIs s (Ok (Point p)) = DecisionFits s × (Point p ≡ answer s)
 AnswerIs s (Ok Unsettled) = DecisionFits s → ⊥
 AnswerIs s (Err e) = Unit {0}
 

@@ -67,7 +67,7 @@ CountIs k rs (Err NoMemory) = ⊥
 abbrev pub EliminationFits : ℕ → List Made → Type 0
 EliminationFits k rs = AllByRecursion (AllPairsFit k rs) rs × length (eliminated k rs) ≤ LIMIT
 
--- variable after variable
+-- the first k variables one after another
 abbrev pub LevelFits : ℕ → List Made → Type 0
 LevelFits zero rs = Unit {0}
 LevelFits (suc k) rs = LevelFits k rs × EliminationFits k (level k rs)

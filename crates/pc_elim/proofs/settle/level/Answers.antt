@@ -1,6 +1,6 @@
 use Rattle.std.proofs.Common.{arith}
 use Rattle.std.proofs.lemmas.Result.{err_from_is_err_and}
-use Rattle.pc_elim.proofs.Settlement.{level_next, level_fails}
+use Rattle.pc_elim.proofs.Settlement.{level_fails}
 use Rattle.pc_elim.proofs.settle.level.Goals as goal
 
 pub returns-in_err-rows-2-clause-value : goal.returns-in_err-rows-2-clause-value
