@@ -1,11 +1,8 @@
 -- Loops that add what is made of each row.
-use Rattle.std.proofs.Common.{◌≡◌, ℕ, zero, suc, ◌+◌, ◌<◌, sym, subst, ◌∙◌, ap, arith, List, [], ◌∷◌, ◌++◌, length, drop, get_or, append_assoc, Err}
+use Rattle.std.proofs.Common.{◌≡◌, ℕ, zero, suc, ◌+◌, ◌<◌, sym, subst, ◌∙◌, ap, arith, List, [], ◌∷◌, ◌++◌, length, drop, get_or}
 use Rattle.std.specs.List.{AllByRecursion}
 use Rattle.std.proofs.lemmas.List.{drop_more}
-use Rattle.pc_elim.specs.declared.made.Fault.{Fault}
-use Rattle.pc_elim.specs.declared.made.Fault.TheVariants.{Past, Full, NoMemory}
 use Rattle.pc_elim.specs.Elimination.{Made, flat}
-use Rattle.pc_elim.specs.Fits.{Adds}
 
 pub flat_next : (f : Made → List Made) (xs : List Made) (i : ℕ) (x : Made) → i < length xs → x ≡ get_or xs i x → flat f (drop i xs) ≡ f x ++ flat f (drop (i + 1) xs)
 flat_next f xs i x lt e = ap (flat f) (drop_more xs i x lt) ∙ ap (λ (z : Made). f z ++ flat f (drop (i + 1) xs)) (sym e)

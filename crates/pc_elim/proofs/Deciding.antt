@@ -21,9 +21,9 @@ use Rattle.pc_elim.specs.declared.made.Fault.TheVariants.{Past, Full}
 use Rattle.pc_elim.specs.declared.made.TheConstants.{PARTS, LIMIT}
 use Rattle.pc_elim.specs.Elimination.{Made, level, started}
 use Rattle.pc_elim.specs.Settling.{origin, contradiction_of, taken_back, settled_by, settle, proof_of}
-use Rattle.pc_elim.specs.Fits.{LevelFits, BackFits, PointFits, SettleFits, FaultIs, SettleIs}
+use Rattle.pc_elim.specs.Fits.{LevelFits, BackFits, PointFits, SettleFits, FaultIs}
 use Rattle.pc_elim.specs.Deciding.{IsEvidence, DecideIs, start, contradiction, answer_by, EvidenceFits, DecisionFits, AnswerIs, ShownIs}
-use Rattle.pc_elim.proofs.Completeness.{IsFrom, origin_from, origin_meets, back_meets}
+use Rattle.pc_elim.proofs.Completeness.{origin_from, origin_meets, back_meets}
 use Rattle.pc_elim.proofs.Soundness.{Contradicts, last_contradicts, last_full}
 use Rattle.pc_elim.proofs.SmallRows.{row_in_range, row_more}
 use Rattle.pc_elim.proofs.Stages.{Modestly, modest_fits}
@@ -173,9 +173,10 @@ module _ (s : System) (rows : List Made) (same : rows ≡ started PARTS (refutin
 
   pub shown_answers : (f : Found) (ms : List ℤ) (r : Result Answer NoMemory) → SettleFits VARIABLES rows × (f ≡ settle VARIABLES rows) → f ≡ Shown ms → ShownIs s ms r → AnswerIs s r
   shown_answers f ms (Ok (Proved p)) h is g =
-      let e = shown_is f ms h.1 is in
-      (record { negated_goal = negated; levels = levels_fit h.0.levels; evidence = subst (EvidenceFits s) e (subst (TotalFits s.premises s.goal) g.0 g.1) },
-      ap Proved g.0 ∙ ap (answer_by s) e)
+      let e = shown_is f ms h.1 is in (
+        record { negated_goal = negated; levels = levels_fit h.0.levels; evidence = subst (EvidenceFits s) e (subst (TotalFits s.premises s.goal) g.0 g.1) },
+        ap Proved g.0 ∙ ap (answer_by s) e,
+      )
   shown_answers f ms (Ok (Refuted p)) h is g = absurd g
   shown_answers f ms (Ok Unsettled) h is g = λ fits. g (subst (EvidenceFits s) (sym (shown_is f ms h.1 is)) fits.evidence)
   shown_answers f ms (Err e) h is g = tt
@@ -185,9 +186,10 @@ module _ (s : System) (rows : List Made) (same : rows ≡ started PARTS (refutin
   point_answers f p h is =
       let q = point_by VARIABLES rows p (contradiction_of (level VARIABLES rows)) (sym h.1 ∙ is) in
       let e : None ≡ contradiction s = sym q.0 ∙ is_contradiction in
-      let fits = subst (λ (z : List Made). BackFits VARIABLES z (origin VARIABLES)) is_start (subst (PointFits VARIABLES rows) q.0 h.0.point) in
-      (record { negated_goal = negated; levels = levels_fit h.0.levels; evidence = subst (EvidenceFits s) e fits },
-      ap Refuted (sym q.1 ∙ ap (λ (z : List Made). taken_back VARIABLES z (origin VARIABLES)) is_start) ∙ ap (answer_by s) e)
+      let fits = subst (λ (z : List Made). BackFits VARIABLES z (origin VARIABLES)) is_start (subst (PointFits VARIABLES rows) q.0 h.0.point) in (
+        record { negated_goal = negated; levels = levels_fit h.0.levels; evidence = subst (EvidenceFits s) e fits },
+        ap Refuted (sym q.1 ∙ ap (λ (z : List Made). taken_back VARIABLES z (origin VARIABLES)) is_start) ∙ ap (answer_by s) e,
+      )
 
   -- a fault
   point_fits : (o : Option (List ℤ)) → EvidenceFits s o → PointFits VARIABLES rows o

@@ -134,11 +134,11 @@ module _ (k : ℕ) (p : Made) (all : List Made) where
     pub pairs_done : (out old : List Made) (j : ℕ) → length below ≤ j → (AllFitAt (drop j below) → AllFitAt below) → out ++ combined_at k p all (drop j below) ≡ old ++ combined_at k p all below →
         AllByRecursion (PairFits k p) all × (out ≡ old ++ with_each k p all)
     pairs_done out old j past fits h = (
-        fit_places 0 all refl (subst AllFitAt are (fits (subst AllFitAt (sym (drop_all j below past)) tt))),
-        sym (append-nil out)
-        ∙ ap (λ (z : List ℕ). out ++ combined_at k p all z) (sym (drop_all j below past))
-        ∙ h
-        ∙ ap (λ (z : List Made). old ++ z) (ap (combined_at k p all) are ∙ combined_places 0 all refl),
+      fit_places 0 all refl (subst AllFitAt are (fits (subst AllFitAt (sym (drop_all j below past)) tt))),
+      sym (append-nil out)
+          ∙ ap (λ (z : List ℕ). out ++ combined_at k p all z) (sym (drop_all j below past))
+          ∙ h
+          ∙ ap (λ (z : List Made). old ++ z) (ap (combined_at k p all) are ∙ combined_places 0 all refl),
     )
 
     -- one place more

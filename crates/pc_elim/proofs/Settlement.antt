@@ -1,8 +1,7 @@
 -- The levels of an elimination and the way back over them: what comes of each step, and of the faults on the way.
-use Rattle.std.proofs.Common.{◌≡◌, ℕ, zero, suc, ◌+◌, ◌≤◌, ◌<◌, refl, sym, subst, ◌∙◌, ap, arith, ℤ, List, length, false, Option, Some, None, Result, Ok, Err, ◌⊎◌, inl, inr}
+use Rattle.std.proofs.Common.{◌≡◌, ℕ, zero, suc, ◌≤◌, ◌<◌, sym, subst, ◌∙◌, ap, arith, ℤ, List, length, false, Option, None, Result, Ok, Err, ◌⊎◌, inl, inr}
 use Rattle.pc_rows.specs.Evidence.{Point}
-use Rattle.pc_elim.specs.declared.settle.Found.{Found}
-use Rattle.pc_elim.specs.declared.settle.Found.TheVariants.{Shown, At}
+use Rattle.pc_elim.specs.declared.settle.Found.TheVariants.{At}
 use Rattle.pc_elim.specs.declared.made.TheConstants.{LIMIT}
 use Rattle.pc_elim.specs.declared.made.Fault.{Fault}
 use Rattle.pc_elim.specs.declared.made.Fault.TheVariants.{Past, Full, NoMemory}
@@ -10,7 +9,7 @@ use Rattle.pc_elim.specs.Elimination.{Made, eliminated, level, has_variable}
 use Rattle.pc_elim.specs.Settling.{origin, contradiction_of, taken_back, settled_by, settle}
 use Rattle.pc_elim.specs.Placing.{placed}
 use Rattle.pc_elim.specs.Fits.{EliminationFits, LevelFits, PlacedFits, BackFits, PointFits, SettleFits, FaultIs, SettleIs}
-use Rattle.pc_elim.proofs.Absent.{AllFree, all_free, free_made, free_placed, free_level, free_fits}
+use Rattle.pc_elim.proofs.Absent.{all_free, free_made, free_placed, free_level, free_fits}
 
 -- a fault of one is a fault of the other
 pub fault_moves : (F G : Type 0) (e : Fault) → (G → F) → FaultIs F e → FaultIs G e

@@ -33,10 +33,11 @@ pub fn decide(alloc: Global, s: &System) -> Result<Answer, NoMemory>
     ensures exact { AnswerIs s.now result }
     ensures evidence { DecideIs s.now result }
 {
-    match s.goal().negated() {
-        Ok(negated) => refute(alloc, s, &negated),
-        Err(Past) => Ok(Answer::Unsettled),
-    }
+    let negated = match s.goal().negated() {
+        Ok(negated) => negated,
+        Err(Past) => return Ok(Answer::Unsettled),
+    };
+    refute(alloc, s, &negated)
 }
 
 /// The same, where the negated goal is in range.

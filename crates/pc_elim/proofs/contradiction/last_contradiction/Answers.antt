@@ -1,6 +1,4 @@
-use Rattle.std.proofs.Common.{sym, ◌∙◌, ap}
-use Rattle.std.specs.List.{list_all}
-use Rattle.pc_elim.specs.Small.{is_small_made}
+use Rattle.std.proofs.Common.{sym, ◌∙◌}
 use Rattle.pc_elim.proofs.Contradicting.{kept_some, kept_none}
 use Rattle.pc_elim.proofs.contradiction.last_contradiction.Goals as goal
 

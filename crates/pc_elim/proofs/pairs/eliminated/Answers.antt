@@ -2,7 +2,6 @@ use Rattle.std.proofs.lemmas.Result.{err_from_is_err_and}
 use Rattle.pc_elim.specs.Elimination.{flat, kept_of}
 use Rattle.pc_elim.specs.Fits.{EliminationFits}
 use Rattle.pc_elim.proofs.Pairing.{count_fails, keep_fails, made_most}
-use Rattle.pc_elim.proofs.Settlement.{fitting_fails}
 use Rattle.pc_elim.proofs.pairs.eliminated.Goals as goal
 
 pub returns-in_err-count-clause-value : goal.returns-in_err-count-clause-value
