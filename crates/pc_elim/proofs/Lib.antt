@@ -17,3 +17,4 @@ pub mod Contradicting
 pub mod Proving
 pub mod Totals
 pub mod Deciding
+pub mod Worked

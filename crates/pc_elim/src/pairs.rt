@@ -44,7 +44,7 @@ fn with_room(alloc: Global, count: usize) -> Result<Items<Made>, Fault>
 /// Adds the rows that do not have the variable.
 fn keep(k: u32, rows: &[Made], out: &mut Items<Made>) -> Result<(), Fault>
     requires { k < VARIABLES }
-    ensures { Adds (flat (kept_of k) rows.now) (AllByRecursion (λ r. Unit {0}) rows.now) out.old result out.new }
+    ensures { Adds (flat (kept_of k) rows.now) (Unit {0}) out.old result out.new }
 {
     for r in rows {
         keep_one(k, r, out)?;
