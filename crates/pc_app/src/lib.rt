@@ -14,8 +14,6 @@ mod run;
 mod service;
 mod show;
 mod status;
-#[cfg(test)]
-mod tests;
 mod verdict;
 mod words;
 
