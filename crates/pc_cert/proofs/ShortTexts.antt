@@ -14,7 +14,7 @@ use Rattle.pc_rows.specs.Joins.{IsRows}
 use Rattle.pc_rows.specs.Evidence.{Proof, IsPart, IsProof, IsRising}
 use Rattle.pc_cert.specs.declared.certificate.Annotated.{Annotated}
 use Rattle.pc_cert.specs.declared.certificate.TheConstants.{POINTS, EDGES}
-use Rattle.pc_cert.specs.Words.{Words}
+use Rattle.pc_text.specs.Words.{Words}
 use Rattle.pc_cert.specs.Certificate.{IsAnnotation, IsAnnotated}
 use Rattle.pc_cert.specs.Lengths.{alternative_bytes, TextsAreShort}
 use Rattle.pc_cert.specs.CertificateTexts.{counts, row_line, proof_line, point_lines, edge_lines, numbered, alternative_lines, line_text, lines_text}

@@ -13,7 +13,7 @@ use Rattle.pc_syntax.specs.declared.tree.Stmt.{Stmt, Stmt-F, out-Stmt}
 use Rattle.pc_syntax.specs.declared.tree.Stmt.TheOpen as stmt
 use Rattle.pc_syntax.specs.Values.{State, compared}
 use Rattle.pc_syntax.specs.Machine.{Outcome, Going, Violated, Blocked, Ended, clamped, end_of}
-use Rattle.pc_runner.specs.Range.{is_in_range}
+use Rattle.pc_text.specs.Numerals.{is_in_range}
 
 -- an answer handed on, or the place of a value that is past the range
 abbrev pub then_with : {A B : Type 0} → Result A Place → (A → Result B Place) → Result B Place

@@ -13,7 +13,7 @@ use Rattle.pc_syntax.specs.declared.tree.Stmt.{Stmt, Stmt-F, out-Stmt}
 use Rattle.pc_syntax.specs.declared.tree.Stmt.TheOpen as stmt
 use Rattle.pc_syntax.specs.Values.{State, value_of, holds}
 use Rattle.pc_syntax.specs.Machine.{drawn}
-use Rattle.pc_runner.specs.Range.{is_in_range}
+use Rattle.pc_text.specs.Numerals.{is_in_range}
 
 -- a value, and the place of the operator or of the choice that makes it
 pub record Computed : Type 0 where

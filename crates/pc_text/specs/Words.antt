@@ -1,5 +1,5 @@
 -- The words of a line, and the numerals among them.
-use Rattle.std.specs.Prelude.{ℕ, ◌-◌, ◌^◌, min, nat_eq, nat_le, ℤ, Bool, true, false, ◌&&◌, if◌then◌else◌, List, [], ◌∷◌, bytes_eq, Option, Some, None}
+use Rattle.std.specs.Prelude.{ℕ, ◌-◌, ◌^◌, min, nat_eq, nat_le, Bool, true, false, ◌&&◌, if◌then◌else◌, List, [], ◌∷◌, bytes_eq, Option, Some, None}
 use Rattle.std.specs.Borrow.{Bor}
 use Rattle.std.specs.List.{list_all, slice_split}
 use Rattle.pc_text.specs.declared.numerals.Word.{Word}

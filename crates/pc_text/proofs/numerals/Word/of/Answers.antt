@@ -1,4 +1,4 @@
-use Rattle.std.proofs.Common.{◌∙◌, ap, sym, FitsSigned, rules}
+use Rattle.std.proofs.Common.{◌∙◌, sym, FitsSigned, rules}
 use Rattle.std.specs.Int.{w128}
 use Rattle.std.proofs.lemmas.Int.{to_z-of_z}
 use Rattle.pc_text.proofs.NumeralWords.{word_number, word_other, word_past}
