@@ -8,10 +8,10 @@ use Rattle.pc_certificate.specs.declared.certificate.Annotated.{Annotated}
 use Rattle.pc_cert.specs.declared.sizes.Sizes.{Sizes}
 use Rattle.pc_certificate.specs.declared.certificate.TheConstants.{ALTERNATIVES}
 use Rattle.pc_cert.specs.declared.fault.CertFault.{CertFault}
-use Rattle.pc_cert.specs.Words.{Words}
+use Rattle.pc_text.specs.Words.{Words}
 use Rattle.pc_cert.specs.Readers.{◌>>=◌, Unread, annotated_reader, begins, alternatives_reader}
 use Rattle.pc_cert.specs.CertificateTexts.{point_lines, edge_lines, numbered, alternative_lines}
-use Rattle.pc_cert.proofs.WordLists.{joined}
+use Rattle.pc_text.proofs.WordLists.{joined}
 use Rattle.pc_cert.proofs.LineReading.{AreTaken, ReadsLines, ok_same, give}
 use Rattle.pc_cert.proofs.ListReading.{bind_ok, taken_both, lines_both, AreFew}
 use Rattle.pc_cert.proofs.AlternativeReading.{IsWhole, annotated_reads, next_line, begins_reads}

@@ -6,7 +6,7 @@ use Rattle.pc_rows.specs.Evidence.{Proof}
 use Rattle.pc_text.specs.Bytes.{Bytes}
 use Rattle.pc_text.specs.Numerals.{numeral}
 use Rattle.pc_certificate.specs.declared.certificate.Annotated.{Annotated}
-use Rattle.pc_cert.specs.Words.{Words}
+use Rattle.pc_text.specs.Words.{Words}
 use Rattle.pc_certificate.specs.Certificate.{Certificate, IsShowable, IsCertificate}
 
 -- the words of counts behind a name

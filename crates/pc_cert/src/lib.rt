@@ -15,7 +15,6 @@ mod row;
 mod row_lines;
 mod showing;
 mod sizes;
-mod words;
 
 pub use alternatives::{push_rows, show_condition, text_determines_condition};
 pub use pc_certificate::{ALTERNATIVES, Annotated, Certificate, EDGES, POINTS};

@@ -14,7 +14,7 @@ use Rattle.pc_program.specs.declared.tree.Stmt.TheOpen as stmt
 use Rattle.pc_program.specs.Values.{value_of, compared, holds, all_hold, chosen}
 use Rattle.pc_rows.specs.Linear.{State}
 use Rattle.pc_program.specs.Machine.{Going, Violated, Blocked, step_at, drawn}
-use Rattle.pc_runner.specs.Range.{is_in_range}
+use Rattle.pc_text.specs.Numerals.{is_in_range}
 use Rattle.pc_runner.specs.Computed.{Computed, worked, in_expr, in_all, in_test, in_choice, in_right, in_stmt, first_past}
 use Rattle.pc_runner.specs.Checked.{then_with, fits, evaluated, held, all_held, tested, with_choice, assigned, stepped_at, stepped}
 use Rattle.pc_runner.specs.Verdicts.{unless, taken}

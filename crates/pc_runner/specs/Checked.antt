@@ -15,7 +15,7 @@ use Rattle.pc_program.specs.Values.{compared}
 use Rattle.pc_rows.specs.Linear.{State}
 use Rattle.pc_program.specs.Machine.{Outcome, Going, Violated, Blocked, Ended, clamped}
 use Rattle.pc_language.specs.Ends.{end_of}
-use Rattle.pc_runner.specs.Range.{is_in_range}
+use Rattle.pc_text.specs.Numerals.{is_in_range}
 
 -- an answer handed on, or the place of a value that is past the range
 abbrev pub then_with : {A B : Type 0} → Result A Place → (A → Result B Place) → Result B Place

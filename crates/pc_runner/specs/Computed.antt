@@ -14,7 +14,7 @@ use Rattle.pc_program.specs.declared.tree.Stmt.TheOpen as stmt
 use Rattle.pc_program.specs.Values.{value_of, holds}
 use Rattle.pc_rows.specs.Linear.{State}
 use Rattle.pc_program.specs.Machine.{drawn}
-use Rattle.pc_runner.specs.Range.{is_in_range}
+use Rattle.pc_text.specs.Numerals.{is_in_range}
 
 -- a value, and the place of the operator or of the choice that makes it
 pub record Computed : Type 0 where

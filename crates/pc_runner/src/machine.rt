@@ -8,8 +8,8 @@ ghost use Rattle.pc_runner.specs.Checked.{then_with, assigned, stepped_at, stepp
 ghost use Rattle.pc_runner.specs.Stack.{flat, led_to, state_or_past};
 
 use crate::arithmetic::sum;
+use crate::conditions::{all_hold, tested};
 use crate::evaluation::value_of;
-use crate::testing::{all_hold, tested};
 use pc_language::{Bound, Choice};
 use pc_program::{Right, Stmt};
 use pc_text::Place;

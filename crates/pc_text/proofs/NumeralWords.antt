@@ -1,27 +1,27 @@
 -- The tests for numerals say what is meant, and a word that is one is read whole.
-use Rattle.std.proofs.Common.{◌≡◌, ◌∙◌, refl, ap, sym, subst, ℕ, ◌<◌, ◌≤◌, eqb, leb, Bool, true, false, cond, List, [], ◌∷◌, ◌++◌, Some, None, length, length-append, arith, ℤ, pos, inl, inr, ◌^◌}
+use Rattle.std.proofs.Common.{◌≡◌, ◌∙◌, refl, ap, sym, subst, ℕ, ◌≤◌, eqb, leb, Bool, true, false, cond, List, [], ◌∷◌, ◌++◌, Some, None, length, length-append, arith, ℤ, pos, inl, inr}
 use Rattle.std.specs.Prelude.{◌&&◌, unsigned_abs, neg_ℤ}
 use Rattle.std.specs.List.{list_all}
 use Rattle.std.proofs.lemmas.Bool.{le-leb, leb-true, eqb-true, and_parts}
 use Rattle.std.proofs.lemmas.List.{append-nil}
-use borrow.Author.Tests.{ltb-true, ltb-false}
-use Rattle.pc_rows.specs.Linear.{in_range, InRange}
+use Rattle.std.proofs.lemmas.Bool.Decides.{nat_tests}
 use Rattle.pc_text.specs.declared.token.TheConstants.{LARGEST}
 use Rattle.pc_text.specs.Bytes.{Bytes}
 use Rattle.pc_text.specs.Digits.{natural_of}
 use Rattle.pc_text.specs.Lexemes.{in_number, EachPasses}
-use Rattle.pc_text.specs.Numerals.{IsPositive, IsNumeral, integer_of, numeral, IsInRange, Reads, IsLongestNumeral}
+use Rattle.pc_text.specs.Numerals.{IsPositive, IsNumeral, integer_of, numeral, IsInRange, is_in_range, Reads, IsLongestNumeral}
 use Rattle.pc_text.proofs.NumeralTexts.{numeral_is, integer_numeral, numeral_integer}
-use Rattle.pc_cert.specs.declared.words.Word.TheVariants as word
-use Rattle.pc_cert.specs.Words.{is_empty, is_positive, is_count, is_numeral, word_of}
-use Rattle.pc_cert.proofs.Decimals.{decimal_begins, IsDigit}
-use Rattle.pc_cert.proofs.Splits.{Begins}
+use Rattle.pc_text.specs.declared.numerals.Word.TheVariants as word
+use Rattle.pc_text.specs.Words.{is_empty, is_positive, is_count, is_numeral, word_of}
+use Rattle.pc_text.proofs.Decimals.{decimal_begins, IsDigit, same_pos}
+use Rattle.pc_text.proofs.Splits.{Begins}
 
-each_passes : (p : ℕ → Bool) (w : Bytes) → list_all p w ≡ true → EachPasses p w
+-- each byte passes a test where all do
+pub each_passes : (p : ℕ → Bool) (w : Bytes) → list_all p w ≡ true → EachPasses p w
 each_passes p [] h = tt
 each_passes p (b ∷ w) h = let both = and_parts (p b) (list_all p w) h in (both.0, each_passes p w both.1)
 
-all_pass : (p : ℕ → Bool) (w : Bytes) → EachPasses p w → list_all p w ≡ true
+pub all_pass : (p : ℕ → Bool) (w : Bytes) → EachPasses p w → list_all p w ≡ true
 all_pass p [] h = refl
 all_pass p (b ∷ w) h = rw h.0 (all_pass p w h.1)
 
@@ -100,9 +100,6 @@ count_integer w h = (unsigned w (count_begins w h)).1
 pub natural_count : (n : ℕ) → is_count (numeral (pos n)) ≡ true
 natural_count n = sym (unsigned (numeral (pos n)) (decimal_begins n)).0 ∙ numeral_test (numeral (pos n)) (numeral_is (pos n))
 
-same_pos : (m n : ℕ) → ◌≡◌ {A = ℤ} (pos m) (pos n) → m ≡ n
-same_pos m n e = cc
-
 pub natural_integer : (n : ℕ) → natural_of (numeral (pos n)) ≡ n
 natural_integer n = same_pos (natural_of (numeral (pos n))) n (sym (unsigned (numeral (pos n)) (decimal_begins n)).1 ∙ integer_numeral (pos n))
 
@@ -120,9 +117,9 @@ integer_is_numeral z = numeral_test (numeral z) (numeral_is z)
 
 -- ---- what is read of a word
 
-same_word_by : (z : ℤ) (t : Bool) → in_range z ≡ t → InRange z → word.Number z ≡ cond t (word.Number z) word.Past
+same_word_by : (z : ℤ) (t : Bool) → is_in_range z ≡ t → IsInRange z → word.Number z ≡ cond t (word.Number z) word.Past
 same_word_by z true e h = refl
-same_word_by z false e h = let past : 2 ^ 127 ≤ unsigned_abs z = ltb-false (unsigned_abs z) (2 ^ 127) e in absurd (omega arith)
+same_word_by z false e h = grind (arith, nat_tests)
 
 front_is_whole : (w u : Bytes) (rest : Bytes) → w ≡ u ++ rest → length u ≡ length w → u ≡ w
 front_is_whole w u [] e l = sym (append-nil u) ∙ sym e
@@ -139,15 +136,14 @@ word_number w z end h e =
     let whole : h.0 ≡ w = front_is_whole w h.0 found.rest found.split long in
     let is : is_numeral w ≡ true = numeral_test w (subst IsNumeral whole found.canonical) in
     let value : integer_of w ≡ z = ap integer_of (sym whole ∙ h.2) ∙ integer_numeral z in
-    let small : unsigned_abs z ≤ LARGEST = h.3 in
-    let range : InRange z = omega arith in
-    rw (is, value) (same_word_by z (in_range z) refl range)
+    let small : IsInRange z = h.3 in
+    rw (is, value) (same_word_by z (is_in_range z) refl small)
 
 front_within : (w u rest : Bytes) → w ≡ u ++ rest → length u ≤ length w
 front_within w u rest e = let long = ap length e in let sum = length-append u rest in omega arith
 
 other_by : (w : Bytes) (z : ℤ) (end : ℕ) (t : Bool) → is_numeral w ≡ t → Reads w 0 (Some (z, end)) → (end ≡ length w → ⊥) →
-    word.Other ≡ cond t (cond (in_range (integer_of w)) (word.Number (integer_of w)) word.Past) word.Other
+    word.Other ≡ cond t (cond (is_in_range (integer_of w)) (word.Number (integer_of w)) word.Past) word.Other
 other_by w z end false is h apart = refl
 other_by w z end true is h apart =
     let most : length w ≤ length h.0 = h.1.longest w [] (append-nil w) (numeral_meant w is) in
@@ -158,8 +154,8 @@ other_by w z end true is h apart =
 pub word_other : (w : Bytes) (z : ℤ) (end : ℕ) → Reads w 0 (Some (z, end)) → (end ≡ length w → ⊥) → word.Other ≡ word_of w
 word_other w z end h apart = other_by w z end (is_numeral w) refl h apart
 
-past_by : (z : ℤ) (t : Bool) → in_range z ≡ t → (IsInRange z → ⊥) → word.Past ≡ cond t (word.Number z) word.Past
-past_by z true e h = let within : unsigned_abs z < 2 ^ 127 = ltb-true (unsigned_abs z) (2 ^ 127) e in absurd (h (omega arith))
+past_by : (z : ℤ) (t : Bool) → is_in_range z ≡ t → (IsInRange z → ⊥) → word.Past ≡ cond t (word.Number z) word.Past
+past_by z true e h = absurd (h (leb-true (unsigned_abs z) LARGEST e))
 past_by z false e h = refl
 
 -- a numeral that is not read is not in range
@@ -171,4 +167,33 @@ word_past w is h =
       canonical = numeral_meant w is;
       longest = λ v s q g. front_within w v s (sym q);
     } in
-    rw is (past_by (integer_of w) (in_range (integer_of w)) refl (h w whole))
+    rw is (past_by (integer_of w) (is_in_range (integer_of w)) refl (h w whole))
+
+-- ---- what a word says of a numeral
+
+number_by : (z y : ℤ) (t : Bool) → is_in_range y ≡ t → word.Number z ≡ cond t (word.Number y) word.Past → (z ≡ y) × (is_in_range z ≡ true)
+number_by z y true e h = let same : z ≡ y = cc in (same, ap is_in_range same ∙ e)
+number_by z y false e h = absurd (cc)
+
+numeral_says : (w : Bytes) → is_numeral w ≡ true → word_of w ≡ cond (is_in_range (integer_of w)) (word.Number (integer_of w)) word.Past
+numeral_says w is = rw is refl
+
+-- its number, which is in range
+pub number_said : (w : Bytes) (z : ℤ) → is_numeral w ≡ true → word.Number z ≡ word_of w → (z ≡ integer_of w) × (is_in_range z ≡ true)
+number_said w z is h = number_by z (integer_of w) (is_in_range (integer_of w)) refl (h ∙ numeral_says w is)
+
+not_past_by : (y : ℤ) (t : Bool) → word.Past ≡ cond t (word.Number y) word.Past → t ≡ false
+not_past_by y true h = absurd (cc)
+not_past_by y false h = refl
+
+-- or that its number is not in range
+pub past_said : (w : Bytes) → is_numeral w ≡ true → word.Past ≡ word_of w → is_in_range (integer_of w) ≡ false
+past_said w is h = not_past_by (integer_of w) (is_in_range (integer_of w)) (h ∙ numeral_says w is)
+
+some_by : (y : ℤ) (t : Bool) → word.Other ≡ cond t (word.Number y) word.Past → ⊥
+some_by y true h = absurd (cc)
+some_by y false h = absurd (cc)
+
+-- and one of the two
+pub some_said : (w : Bytes) → is_numeral w ≡ true → word.Other ≡ word_of w → ⊥
+some_said w is h = some_by (integer_of w) (is_in_range (integer_of w)) (h ∙ numeral_says w is)

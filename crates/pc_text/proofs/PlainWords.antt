@@ -1,20 +1,17 @@
--- Words without spaces and line feeds, and the lines and texts that they make.
-use Rattle.std.proofs.Common.{◌≡◌, ◌∙◌, refl, ap, sym, subst, ℕ, zero, suc, ◌≤◌, eqb, false, not, List, [], ◌∷◌, ◌++◌, map, append_assoc, arith, ℤ, pos, negsuc}
+-- Words without spaces and line feeds, and the lines that they make.
+use Rattle.std.proofs.Common.{◌≡◌, ◌∙◌, refl, ap, sym, subst, ℕ, zero, suc, ◌≤◌, eqb, false, not, [], ◌∷◌, ◌++◌, map, List, arith, ℤ, pos, negsuc}
 use Rattle.std.specs.Prelude.{codes}
 use Rattle.std.specs.List.{AllByRecursion, All, flat_map}
 use Rattle.std.proofs.lemmas.Bool.{ne_eqb}
 use Rattle.std.proofs.lemmas.List.{append-nil}
 use Rattle.std.proofs.lemmas.List.Splits.{slice_split_at, slice_split_none}
 use Rattle.pc_text.specs.Bytes.{Bytes}
-use Rattle.pc_text.specs.Numerals.{numeral}
 use Rattle.pc_text.specs.Lexemes.{in_line, EachPasses}
-use Rattle.pc_cert.specs.Words.{Words, is_space, words, is_empty}
-use Rattle.pc_cert.specs.Faults.{ended_lines, tail_of}
-use Rattle.pc_cert.specs.CertificateTexts.{lines_text}
-use Rattle.pc_cert.proofs.Decimals.{decimal_digits}
-use Rattle.pc_cert.proofs.EndedLines.{line_on}
-use Rattle.pc_cert.proofs.Splits.{each_weaker, each-append}
-use Rattle.pc_cert.proofs.WordLists.{joined}
+use Rattle.pc_text.specs.Numerals.{numeral}
+use Rattle.pc_text.specs.Words.{Words, is_space, words, is_empty}
+use Rattle.pc_text.proofs.Decimals.{decimal_digits}
+use Rattle.pc_text.proofs.Splits.{each_weaker, each-append}
+use Rattle.pc_text.proofs.WordLists.{joined}
 
 -- neither a space nor a line feed stands among the bytes
 abbrev pub IsPlain : Bytes → Type 0
@@ -43,7 +40,7 @@ words_of_line [] h = let apart = h.1 in absurd (cc)
 words_of_line (w ∷ []) h = ap words (append-nil w) ∙ slice_split_none is_space w (no_space w h.0.0)
 words_of_line (w ∷ v ∷ ws) h = words_by w v ws h.0.0 (words_of_line (v ∷ ws) (h.0.1, refl))
 
--- ---- the lines of a text
+-- ---- no line feed
 
 high_in_line : (x : Bytes) → AllByRecursion (λ b. 32 ≤ b) x → EachPasses in_line x
 high_in_line [] h = tt
@@ -57,14 +54,9 @@ line_high : (ws : Words) → AllByRecursion IsPlain ws → AllByRecursion (λ b.
 line_high [] h = tt
 line_high (w ∷ ws) h = each-append (λ b. 32 ≤ b) w (flat_map (λ w. codes " " ++ w) ws) (each_weaker (λ b. 33 ≤ b) (λ b. 32 ≤ b) (λ b g. omega (arith, g)) w h.0) (further_high ws h.1)
 
--- the lines of the text that lines of plain words make
-pub lines_of_text : (ls : List Words) → AllByRecursion (AllByRecursion IsPlain) ls → (ended_lines (lines_text ls) ≡ map joined ls) × (tail_of (lines_text ls) ≡ [])
-lines_of_text [] h = (refl, refl)
-lines_of_text (ws ∷ ls) h =
-    let more = lines_of_text ls h.1 in
-    let text : lines_text (ws ∷ ls) ≡ joined ws ++ 10 ∷ lines_text ls = append_assoc (joined ws) (10 ∷ []) (lines_text ls) in
-    let first = line_on (joined ws) (lines_text ls) (high_in_line (joined ws) (line_high ws h.0)) in
-    (ap ended_lines text ∙ first.0 ∙ ap (λ z. joined ws ∷ z) more.0, ap tail_of text ∙ first.1 ∙ more.1)
+-- no line feed stands in the line that plain words make
+pub plain_line : (ws : Words) → AllByRecursion IsPlain ws → EachPasses in_line (joined ws)
+plain_line ws h = high_in_line (joined ws) (line_high ws h)
 
 -- ---- numerals are plain
 
