@@ -14,8 +14,7 @@ use Rattle.pc_rows.specs.Linear.{State}
 use Rattle.pc_program.specs.declared.program.Program.{Program}
 use Rattle.pc_program.specs.declared.tree.Stmt.{Stmt}
 use Rattle.pc_program.proofs.Results.{and_is}
-use Rattle.pc_program.proofs.Stmts.{by_stmt}
-use Rattle.pc_program.proofs.Trees.{all_by}
+use Rattle.pc_program.proofs.Stmts.{by_stmt, all_by}
 use Rattle.pc_flow.specs.Arc.{Enter, Test, Arc, arc}
 use Rattle.pc_graph.specs.Corresponds.{IsNoStep, IsStep, RunsHaveWalks, WalksHaveRuns, SameSteps, StepsCorrespond}
 use Rattle.pc_flow.specs.Lists.{In}

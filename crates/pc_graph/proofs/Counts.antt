@@ -14,8 +14,7 @@ use Rattle.pc_program.specs.declared.tree.Test.{Test as Condition}
 use Rattle.pc_program.specs.declared.tree.Test.TheVariants as test
 use Rattle.pc_program.specs.declared.tree.Stmt.{Stmt, fold-roll-Stmt}
 use Rattle.pc_program.specs.declared.tree.Stmt.TheOpen as stmt
-use Rattle.pc_program.proofs.Stmts.{by_stmt}
-use Rattle.pc_program.proofs.Trees.{all_by}
+use Rattle.pc_program.proofs.Stmts.{by_stmt, all_by}
 use Rattle.pc_flow.specs.Arc.{Test, Check, arc}
 use Rattle.pc_graph.specs.Lowering.{Rule, one, tests, join_edges, assigned, rule, rule_step, rules}
 use Rattle.pc_graph.specs.Ways.{is_lone, apart, ways_of, ways}

@@ -15,8 +15,7 @@ use Rattle.pc_program.specs.declared.tree.Test.{Test as Condition}
 use Rattle.pc_program.specs.declared.tree.Stmt.{Stmt, fold-roll-Stmt}
 use Rattle.pc_program.specs.declared.tree.Stmt.TheOpen as stmt
 use Rattle.pc_program.proofs.Results.{and_is}
-use Rattle.pc_program.proofs.Stmts.{by_stmt}
-use Rattle.pc_program.proofs.Trees.{all_by}
+use Rattle.pc_program.proofs.Stmts.{by_stmt, all_by}
 use Rattle.pc_graph.specs.declared.draft.Loop.{Loop}
 use Rattle.pc_flow.specs.declared.what.TheConstants.{TEST_ROWS}
 use Rattle.pc_flow.specs.Arc.{What, Test, Check, Arc, arc, IsFit}

@@ -9,8 +9,7 @@ use Rattle.pc_program.specs.declared.tree.Test.TheVariants as test
 use Rattle.pc_program.specs.declared.tree.Stmt.{Stmt, fold-roll-Stmt}
 use Rattle.pc_program.specs.declared.tree.Stmt.TheOpen as stmt
 use Rattle.pc_program.proofs.Results.{and_is}
-use Rattle.pc_program.proofs.Stmts.{by_stmt}
-use Rattle.pc_program.proofs.Trees.{all_by}
+use Rattle.pc_program.proofs.Stmts.{by_stmt, all_by}
 use Rattle.pc_flow.proofs.Lists.{none_joined}
 use Rattle.pc_graph.specs.Straight.{is_any, straight_step, is_straight, are_straight, StraightIsLoopFree}
 

@@ -17,7 +17,7 @@ use Rattle.pc_program.specs.declared.tree.Test.TheVariants as test
 use Rattle.pc_program.proofs.Results.{and_is, and_of}
 use Rattle.pc_program.proofs.RowLemmas.{conjunctions_are_rows, unequals_are_rows}
 use Rattle.pc_rows.proofs.Meeting.{meets_left, meets_join, met_or_not, not_both}
-use Rattle.pc_program.proofs.Trees.{all_by}
+use Rattle.pc_program.proofs.Stmts.{all_by}
 use Rattle.pc_flow.specs.Lists.{AnyOf}
 use Rattle.pc_graph.specs.Ways.{is_lone, apart, ways_of, ways}
 use Rattle.pc_flow.proofs.Lists.{each_more}

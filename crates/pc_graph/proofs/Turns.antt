@@ -10,8 +10,7 @@ use Rattle.pc_program.specs.declared.tree.Compare.{Compare}
 use Rattle.pc_program.specs.declared.tree.Test.{Test as Condition}
 use Rattle.pc_program.specs.declared.tree.Stmt.{Stmt, fold-roll-Stmt}
 use Rattle.pc_program.specs.declared.tree.Stmt.TheOpen as stmt
-use Rattle.pc_program.proofs.Stmts.{by_stmt}
-use Rattle.pc_program.proofs.Trees.{all_by}
+use Rattle.pc_program.proofs.Stmts.{by_stmt, all_by}
 use Rattle.pc_flow.specs.Arc.{What, Enter, Test, Check, Arc, arc}
 use Rattle.pc_graph.specs.Lowering.{Piece, Rule, one, tests, join_edges, assigned, rule, rule_step, rules, made}
 use Rattle.pc_flow.specs.Shape.{TurnsApart, NoSharedHead}

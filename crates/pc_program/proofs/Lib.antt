@@ -2,7 +2,6 @@ pub mod Results
 pub mod Exprs
 pub mod FormLemmas
 pub mod RowLemmas
-pub mod Trees
 pub mod Folds
 pub mod LoopLemmas
 pub mod Stmts

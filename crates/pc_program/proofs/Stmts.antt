@@ -28,6 +28,7 @@ module _ (P : Stmt → Type 0)
   pub by_stmt : (x : Stmt) → P x
   by_stmt x = ind-Stmt P layer x
 
-pub all_by : (P : Stmt → Type 0) → ((x : Stmt) → P x) → (xs : List Stmt) → AllByRecursion P xs
+-- what holds of all things holds of each of a list
+pub all_by : {A : Type 0} (P : A → Type 0) → ((x : A) → P x) → (xs : List A) → AllByRecursion P xs
 all_by P f [] = tt
 all_by P f (x ∷ xs) = (f x, all_by P f xs)

@@ -27,7 +27,7 @@ use Rattle.pc_readback.specs.Showable.{signs_in, sign_weight}
 use Rattle.pc_readback.specs.ShownTrees as short
 use Rattle.pc_readback.specs.ShownTrees.{around}
 use Rattle.pc_program.proofs.Results.{bind_keeps}
-use Rattle.pc_program.proofs.Trees.{by_expr}
+use Rattle.pc_syntax.proofs.Trees.{by_expr}
 use Rattle.pc_program.proofs.Folds.{fold-num, fold-name, fold-neg, fold-add, fold-sub, fold-mul}
 use Rattle.pc_show.proofs.Laid.{num_laid, name_laid, neg_laid, add_laid, sub_laid, mul_laid}
 

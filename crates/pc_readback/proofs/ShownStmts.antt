@@ -23,7 +23,8 @@ use Rattle.pc_syntax.specs.Context as walk
 use Rattle.pc_readback.specs.Showable as shown
 use Rattle.pc_readback.specs.ShownTrees as short
 use Rattle.pc_program.proofs.Results.{bind_keeps}
-use Rattle.pc_program.proofs.Trees.{by_stmt, all_by}
+use Rattle.pc_syntax.proofs.Trees.{by_stmt}
+use Rattle.pc_program.proofs.Stmts.{all_by}
 use Rattle.pc_program.proofs.Folds.{fold-set, fold-if, fold-while, fold-assert, fold-assume}
 use Rattle.pc_readback.proofs.ShownExprs.{walked_like}
 

@@ -18,7 +18,7 @@ use Rattle.pc_show.specs.declared.showing.level.Level.{Level}
 use Rattle.pc_show.specs.declared.showing.level.Level.TheVariants as level
 use Rattle.pc_show.specs.Canonical.{wraps_negation, wraps_sum, wraps_product}
 use Rattle.pc_readback.specs.ShownTrees.{around, sign_step, signs}
-use Rattle.pc_program.proofs.Trees.{by_expr}
+use Rattle.pc_syntax.proofs.Trees.{by_expr}
 use Rattle.pc_readback.proofs.SignCosts.{cost, cost-append, sign_costs}
 
 -- ---- the signs of a tree at each level

@@ -1,3 +1,4 @@
+pub mod Trees
 pub mod FitLemmas
 pub mod WalkedExprs
 pub mod WalkedTests

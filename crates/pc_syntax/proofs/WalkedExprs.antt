@@ -23,7 +23,7 @@ use Rattle.pc_program.specs.Sane.{below_step, names_below, sane_expr}
 use Rattle.pc_syntax.specs.Context.{word, known, resolved, formed, expr_step, checked_expr}
 use Rattle.pc_syntax.specs.Trees.{fit_expr}
 use Rattle.pc_program.proofs.Results.{and_is, and_of, bind_keeps}
-use Rattle.pc_program.proofs.Trees.{by_expr}
+use Rattle.pc_syntax.proofs.Trees.{by_expr}
 use Rattle.pc_program.proofs.Folds.{fold-num, fold-name, fold-neg, fold-add, fold-sub, fold-mul}
 
 -- ---- names

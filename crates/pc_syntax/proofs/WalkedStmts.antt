@@ -29,7 +29,8 @@ use Rattle.pc_syntax.specs.Context as walk
 use Rattle.pc_syntax.specs.Trees as trees
 use Rattle.pc_syntax.specs.Kept.{WalksAreSane}
 use Rattle.pc_program.proofs.Results.{and_is, and_of, at_most, bind_keeps}
-use Rattle.pc_program.proofs.Trees.{by_stmt, all_by}
+use Rattle.pc_syntax.proofs.Trees.{by_stmt}
+use Rattle.pc_program.proofs.Stmts.{all_by}
 use Rattle.pc_program.proofs.Folds.{fold-set, fold-if, fold-while, fold-assert, fold-assume}
 use Rattle.pc_syntax.proofs.WalkedExprs.{resolved_test}
 use Rattle.pc_syntax.proofs.WalkedTests.{IsConjunction, IsTest, walked_all, walked_test, walked_right}
