@@ -89,7 +89,7 @@ fn certificate_of(alloc: Global, program: &Program) -> Result<Certificate, NoMem
     let graph = lower(alloc, program)?;
     match infer(alloc, &graph) {
         Ok(certificate) => Ok(certificate),
-        Err(_) => Err(NoMemory),
+        Err(pc_rows::NoMemory) => Err(NoMemory),
     }
 }
 
