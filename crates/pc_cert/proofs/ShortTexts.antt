@@ -18,8 +18,8 @@ use Rattle.pc_certificate.specs.declared.certificate.Annotated.{Annotated}
 use Rattle.pc_certificate.specs.declared.certificate.TheConstants.{POINTS}
 use Rattle.pc_language.specs.declared.limits.TheConstants.{EDGES}
 use Rattle.pc_text.specs.Words.{Words}
-use Rattle.pc_certificate.specs.Certificate.{IsAnnotation, IsAnnotated}
-use Rattle.pc_cert.specs.Lengths.{row_bytes, proof_bytes, point_bytes, edge_bytes, alternative_bytes, text_bytes, NamesPremises, IsLean, AreLean, TextsAreShort}
+use Rattle.pc_certificate.specs.Certificate.{IsAnnotation, IsAnnotated, NamesPremises, IsLean, AreLean}
+use Rattle.pc_cert.specs.Lengths.{row_bytes, proof_bytes, point_bytes, edge_bytes, alternative_bytes, text_bytes, TextsAreShort}
 use Rattle.pc_cert.specs.CertificateTexts.{counts, row_line, proof_line, point_lines, edge_lines, numbered, alternative_lines, line_text, lines_text}
 use Rattle.pc_cert.proofs.RowSpelling.{range_of_front}
 use Rattle.pc_cert.proofs.ProofSpelling.{from_zero}
