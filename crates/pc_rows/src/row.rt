@@ -1,10 +1,11 @@
 //! Rows.
 
-ghost use Rattle.std.specs.Prelude.{◌≡◌, ◌<◌, ◌*ℤ◌, ◌+ℤ◌, OkIff, pos, replicate};
+ghost use Rattle.std.specs.Prelude.{◌≡◌, ◌<◌, ◌*ℤ◌, ◌+ℤ◌, OkIff, IsTrue, pos, replicate};
 ghost use Rattle.pc_rows.specs.Points.{SumsFit};
 ghost use Rattle.pc_rows.specs.Linear.{InRange, dot, IsInRange, IsRow, coefficient, of_constant, with_coefficient, sum_of, difference_of, scaled_by, opposite_of, above_of, first_of, is_number, negation};
 ghost use Rattle.pc_rows.specs.Joins.{is_always, is_at_most};
 ghost use Rattle.pc_rows.specs.Checks.{is_never};
+ghost use Rattle.pc_rows.specs.Substitution.{never_row};
 
 use crate::number::{Number, Past};
 use crate::numbers::{are_zero, first, opposites, products, sum_of_products, sums};
@@ -43,6 +44,16 @@ impl Row {
     {
         Row {
             constant: Number::new(c),
+            coefficients: zeros(),
+        }
+    }
+
+    /// The row -1, which no state meets.
+    fn never() -> Row
+        ensures { result ≡ never_row }
+    {
+        Row {
+            constant: Number::new(-1),
             coefficients: zeros(),
         }
     }
@@ -110,12 +121,25 @@ impl Row {
         self.sum(&other.opposite())
     }
 
-    /// `k` times the row. `Past` exactly where one of its numbers is not in range.
+    /// `k` times the row, whatever `k` is. `Past` exactly where one of its numbers is not in range.
     pub fn scaled(&self, k: i128) -> Result<Row, Past>
-        requires { InRange k }
         ensures { OkIff result (IsInRange (scaled_by k self.now)) (scaled_by k self.now) }
     {
-        self.times(Number::new(k))
+        match Number::checked(k) {
+            Some(k) => self.times(k),
+            None => self.if_all_zero(),
+        }
+    }
+
+    /// The row where all its numbers are 0: no other has a multiple by a number that is not in range.
+    fn if_all_zero(&self) -> Result<Row, Past>
+        ensures { OkIff result (IsTrue (is_number self.now) × (self.now.constant ≡ pos 0)) self.now }
+    {
+        if self.is_number() && self.constant.is_zero() {
+            Ok(self.copy())
+        } else {
+            Err(Past)
+        }
     }
 
     /// `scaled` by a number that is known to be in range.
