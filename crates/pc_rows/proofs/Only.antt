@@ -11,7 +11,7 @@ use Rattle.pc_rows.specs.Laws.{FirstIsOver, SubstitutedIsOver, DifferenceIsOver,
 use Rattle.pc_rows.proofs.Algebra.{get_or-add_lists, get_or-scale_list}
 use Rattle.pc_rows.proofs.Joining.{each_join}
 
-zero_from_at : (n : ℕ) (zs : List ℤ) (v : ℕ) → n ≤ v → get_or (zero_from n zs) v (pos 0) ≡ pos 0
+pub zero_from_at : (n : ℕ) (zs : List ℤ) (v : ℕ) → n ≤ v → get_or (zero_from n zs) v (pos 0) ≡ pos 0
 zero_from_at n [] v h = refl
 zero_from_at zero (z ∷ zs) zero h = refl
 zero_from_at zero (z ∷ zs) (suc v) h = zero_from_at zero zs v (omega arith)

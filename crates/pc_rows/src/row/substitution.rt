@@ -2,11 +2,12 @@
 
 ghost use Rattle.std.specs.Prelude.{◌≡◌, ℤ, pos, ◌+ℤ◌, ◌*ℤ◌, ◌<◌, OkIff, slice_set};
 ghost use Rattle.pc_rows.specs.Linear.{coefficient, add_lists, scale_list};
+ghost use Rattle.pc_rows.specs.Terms.{AreTerms, Rises, TermsIff, dense};
 ghost use Rattle.pc_rows.specs.Substitution.{substituted, SubstituteFits, carried, CarryFits, ConstantFits, CoefficientsFit, IsEnd, AreOrdered, needs_open_end, least_product, ProductFits};
 
 use crate::number::{Number, Past};
-use crate::numbers::{products, sums};
 use crate::row::{Row, VARIABLES};
+use crate::terms::{Term, Terms, plus_multiple, put};
 
 /// The row that a state meets exactly where every state after `x = form + [lo, hi]` meets `r`; None is an open end. A
 /// row without `x` is itself. With `c` for the coefficient at `x`, the needed end is `lo` where `c` is above 0 and `hi`
@@ -26,12 +27,12 @@ pub fn substitute(
     requires ordered { AreOrdered lo hi }
     ensures { OkIff result (SubstituteFits r.now x form.now lo hi) (substituted r.now x form.now lo hi) }
 {
-    let c = r.coefficients[x as usize];
+    let c = r.number_at(x);
     if c.is_zero() {
         return Ok(r.copy());
     }
     if needs_open_end(c, lo, hi) {
-        return Ok(Row::never());
+        return Ok(r.never());
     }
     carried(r, x, form, lo, hi)
 }
@@ -50,14 +51,10 @@ fn carried(r: &Row, x: u32, form: &Row, lo: Option<i128>, hi: Option<i128>) -> R
     requires high { IsEnd hi }
     ensures { OkIff result (CarryFits r.now x form.now lo hi) (carried r.now x form.now lo hi) }
 {
-    let x = x as usize;
-    let c = r.coefficients[x];
+    let c = r.number_at(x);
     let constant = carried_constant(c, r.constant, form.constant, lo, hi)?;
-    let coefficients = carried_coefficients(c, &r.coefficients, x, &form.coefficients)?;
-    Ok(Row {
-        constant,
-        coefficients,
-    })
+    let terms = carried_terms(c, &r.terms, x, form.terms.as_slice())?;
+    Ok(Row { constant, terms })
 }
 
 fn carried_constant(
@@ -92,16 +89,13 @@ fn least_product(c: Number, lo: Option<i128>, hi: Option<i128>) -> Result<Number
     }
 }
 
-fn carried_coefficients(
-    c: Number,
-    of_row: &[Number; VARIABLES],
-    x: usize,
-    of_form: &[Number; VARIABLES],
-) -> Result<[Number; VARIABLES], Past>
-    requires { x < VARIABLES }
-    ensures { OkIff result (CoefficientsFit c of_row.now x of_form.now) (add_lists (scale_list c of_form.now) (slice_set of_row.now x (pos 0))) }
+fn carried_terms(c: Number, of_row: &Terms, x: u32, of_form: &[Term]) -> Result<Terms, Past>
+    requires row { AreTerms of_row.now }
+    requires variable { x < VARIABLES }
+    requires form { Rises 0 of_form.now }
+    ensures { TermsIff result (CoefficientsFit c (dense of_row.now.items) x (dense of_form.now)) (add_lists (scale_list c (dense of_form.now)) (slice_set (dense of_row.now.items) x (pos 0))) }
 {
-    let mut rest = *of_row;
-    rest[x] = Number::new(0);
-    sums(&products(c, of_form)?, &rest)
+    let alloc = *of_row.allocator();
+    let rest = put(alloc, of_row.as_slice(), x, Number::new(0));
+    plus_multiple(alloc, rest.as_slice(), c, of_form)
 }
