@@ -10,8 +10,8 @@ ghost use Rattle.pc_rows.specs.Substitution.{never_row};
 
 use crate::number::{Number, Past};
 use crate::terms::{
-    Term, Terms, are_same, copied, differences, first, lookup, no_terms, plus_multiple, products,
-    put, sum_of_products, sums,
+    Term, Terms, are_same, copied, differences, first, lookup, no_terms, opposites, plus_multiple,
+    products, put, sum_of_products, sums,
 };
 use std::alloc::Global;
 use std::marker::Model;
@@ -227,7 +227,7 @@ impl Row {
         ensures { OkIff result (IsInRange (negation self.now)) (negation self.now) }
     {
         let constant = self.constant.negated().minus(Number::new(1))?;
-        let terms = differences(self.alloc(), &[], self.terms.as_slice())?;
+        let terms = opposites(self.alloc(), self.terms.as_slice())?;
         Ok(Row { constant, terms })
     }
 

@@ -80,6 +80,7 @@ impl Rows {
         if self.rows.len() == ROWS {
             return Err(RowsFault::Full);
         }
+        let _row = r.constant();
         match self.rows.push(r) {
             Ok(()) => Ok(()),
             Err(_) => Err(RowsFault::NoMemory),

@@ -126,6 +126,14 @@ pub(crate) fn products(alloc: Global, k: Number, b: &[Term]) -> Result<Terms, Pa
     plus_multiple(alloc, &[], k, b)
 }
 
+/// The opposite of each coefficient. It is never `Past`, since the range is symmetric.
+pub(crate) fn opposites(alloc: Global, b: &[Term]) -> Result<Terms, Past>
+    requires { Rises 0 b.now }
+    ensures { TermsIff result (AllInRange (negate_list (dense b.now))) (negate_list (dense b.now)) }
+{
+    products(alloc, Number::new(-1), b)
+}
+
 /// The terms of `a` plus `k` times those of `b`, by a merge. `Past` exactly where one of the
 /// products or of the sums is not in range.
 pub(crate) fn plus_multiple(
