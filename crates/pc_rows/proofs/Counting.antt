@@ -109,8 +109,8 @@ module _ (a b : List Linear) (i count : ℕ) (r : Linear) (at : slice_get b i �
   covered_so_far =
       sym (covered_append r a (take i b))
       ∙ same_truth (is_covered r (a ++ take i b)) (is_covered r (joined a (take i b)))
-          (λ h. (covering_is_meant r (joined a (take i b))).1 ((covered_by_join r a (take i b)).1 ((covering_is_meant r (a ++ take i b)).0 h)))
-          (λ h. (covering_is_meant r (a ++ take i b)).1 ((covered_by_join r a (take i b)).0 ((covering_is_meant r (joined a (take i b))).0 h)))
+      (λ h. (covering_is_meant r (joined a (take i b))).1 ((covered_by_join r a (take i b)).1 ((covering_is_meant r (a ++ take i b)).0 h)))
+      (λ h. (covering_is_meant r (a ++ take i b)).1 ((covered_by_join r a (take i b)).0 ((covering_is_meant r (joined a (take i b))).0 h)))
 
   next : joined a (take (i + 1) b) ≡ cond t (joined a (take i b)) (joined a (take i b) ++ r ∷ [])
   next = ap (joined a) ((take_more b i r (slice_get_within b i r at) ∙ ap (λ x. take i b ++ x ∷ []) (get_or_from_slice_get b i r r at))) ∙ joined_last a (take i b) r ∙ ap (λ c. cond c (joined a (take i b)) (joined a (take i b) ++ r ∷ [])) (sym covered_so_far)

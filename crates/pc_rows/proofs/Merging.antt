@@ -6,8 +6,8 @@ use Rattle.smallvec.specs.SmallVec.{SmallVec, HasRoomFor}
 use Rattle.pc_rows.specs.declared.row.TheConstants.{VARIABLES}
 use Rattle.pc_rows.specs.declared.terms.Term.{Term}
 use Rattle.pc_rows.specs.Linear.{InRange, AllInRange, add_lists, scale_list}
-use Rattle.pc_rows.specs.Terms.{AreTerms, Rises, dense, front, least, lookup, past, term_of}
-use Rattle.pc_rows.specs.Merges.{Below, Merged, MergedTo, MultipleFits}
+use Rattle.pc_rows.specs.Terms.{Rises, dense, front, least, lookup, past, term_of}
+use Rattle.pc_rows.specs.Merges.{Merged, MergedTo, MultipleFits}
 use Rattle.pc_rows.proofs.Algebra.{get_or-add_lists, get_or-scale_list, length-add_lists, length-scale_list}
 use Rattle.pc_rows.proofs.TermLists.{all_at, below_append, below_term, below_wider, dense_in_range, dense_is, few, front_is, get_or-dense, in_range_at, least_below, least_is, length-dense, lookup_append, lookup_before, lookup_kept, lookup_other, lookup_past, lookup_term, past_is, rises_append, rises_term, shorter, zero_in_range}
 

@@ -89,6 +89,9 @@ term_kept n [] k d h lt = absurd (omega arith)
 term_kept n (t ∷ ts) zero d h lt = (h.1, h.3)
 term_kept n (t ∷ ts) (suc k) d h lt = term_kept (t.variable + 1) ts k d h.4 (omega arith)
 
+pub term_below : (ts : List Term) (k : ℕ) (t : Term) → Rises 0 ts → k < length ts → t ≡ get_or ts k t → t.variable < VARIABLES
+term_below ts k t h lt e = subst (λ (u : Term). u.variable < VARIABLES) (sym e) (term_kept 0 ts k t h lt).0
+
 pub dense_terms : (ts : List Term) → Rises 0 ts → terms_from 0 (dense ts) ≡ pairs ts
 unfolding dense
 dense_terms ts h = terms_from_is VARIABLES 0 ts h (below_wider VARIABLES (0 + VARIABLES) ts (omega arith) (below_all ts 0 h))

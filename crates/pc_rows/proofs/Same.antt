@@ -1,18 +1,19 @@
 -- Lists of terms and lists of coefficients: one determines the other.
-use Rattle.std.proofs.Common.{◌≡◌, ◌∙◌, ℕ, zero, suc, ◌+◌, ◌<◌, ◌≤◌, ℤ, pos, Bool, true, false, cond, List, [], ◌∷◌, map, length, get_or, refl, sym, subst, ap, ap₂, arith}
-use Rattle.std.specs.Prelude.{◌==◌}
+use Rattle.std.proofs.Common.{◌≡◌, ◌∙◌, ℕ, zero, suc, ◌+◌, ◌<◌, ℤ, pos, Bool, true, false, cond, List, [], ◌∷◌, map, get_or, refl, sym, subst, ap, ap₂, arith}
+use Rattle.std.specs.Prelude.{◌==◌, ◌&&◌}
 use Rattle.std.specs.Ordering.{int_eq}
 use Rattle.std.specs.Cmp.Lexicographic.{pointwise}
 use Rattle.std.specs.Cmp.Rules.{signed_items}
-use Rattle.std.proofs.lemmas.Bool.Decides.{nat_tests}
+use Rattle.std.proofs.lemmas.Bool.Decides.{nat_tests, Decides-int_eq}
 use Rattle.std.proofs.lemmas.List.{same_lists, get_or_default}
-use Rattle.pc_rows.specs.declared.row.TheConstants.{VARIABLES}
 use Rattle.pc_rows.specs.declared.terms.Term.{Term}
-use Rattle.pc_rows.specs.Linear.{Linear, coefficient, is_zero}
+use Rattle.pc_rows.specs.Linear.{is_zero}
 use Rattle.pc_rows.specs.Terms.{Rises, dense}
 use Rattle.pc_rows.specs.Readers.{terms_from, terms_of, among, TermsAreCoefficients, SameTermsSameRow}
 use Rattle.pc_rows.proofs.Algebra.{same_row}
+use Rattle.pc_rows.proofs.Joining.{and_both}
 use Rattle.pc_rows.proofs.Lists.{zero_is}
+use Rattle.pc_rows.proofs.Ranges.{and_is}
 use Rattle.pc_rows.proofs.TermLists.{if_apart, if_same}
 use Rattle.pc_rows.proofs.Reading.{pairs, dense_terms}
 
@@ -70,3 +71,38 @@ same_truth : (b c : Bool) → (b ≡ true → c ≡ true) → (c ≡ true → b 
 same_truth true c h g = sym (h refl)
 same_truth false true h g = g refl
 same_truth false false h g = refl
+
+-- the test for one term
+abbrev equal_terms : Term → Term → Bool
+equal_terms x y = (x.variable == y.variable) && int_eq x.coefficient y.coefficient
+
+made_of : ℕ → ℤ → Term
+made_of v c = record { variable = v; coefficient = c }
+
+pub same_term : (x y : Term) → equal_terms x y ≡ true → x ≡ y
+unfolding made_of
+same_term x y h =
+    let p = and_is (x.variable == y.variable) (int_eq x.coefficient y.coefficient) h in
+    let variable : x.variable ≡ y.variable = grind (arith, nat_tests, p.0) in
+    ap₂ made_of variable ((Decides-int_eq x.coefficient y.coefficient).0 p.1)
+
+pub is_same_term : (x : Term) → equal_terms x x ≡ true
+is_same_term x =
+    let variable : (x.variable == x.variable) ≡ true = grind (arith, nat_tests) in
+    and_both (x.variable == x.variable) (int_eq x.coefficient x.coefficient) variable ((Decides-int_eq x.coefficient x.coefficient).1 refl)
+
+module _ (f : Term → Term → Bool) (same : (x y : Term) → f x y ≡ true → x ≡ y) (is_same : (x : Term) → f x x ≡ true) where
+  all_same : (a b : List Term) → pointwise f a b ≡ true → a ≡ b
+  all_same [] [] h = refl
+  all_same [] (y ∷ ys) h = cc
+  all_same (x ∷ xs) [] h = cc
+  all_same (x ∷ xs) (y ∷ ys) h = let p = and_is (f x y) (pointwise f xs ys) h in ap₂ (λ u us. u ∷ us) (same x y p.0) (all_same xs ys p.1)
+
+  are_same : (a : List Term) → pointwise f a a ≡ true
+  are_same [] = refl
+  are_same (x ∷ xs) = and_both (f x x) (pointwise f xs xs) (is_same x) (are_same xs)
+
+  pub same_coefficients : (a b : List Term) → Rises 0 a → Rises 0 b → pointwise f a b ≡ pointwise int_eq (dense a) (dense b)
+  same_coefficients a b h g = same_truth (pointwise f a b) (pointwise int_eq (dense a) (dense b))
+      (λ e. (signed_items (dense a) (dense b)).1 (ap dense (all_same a b e)))
+      (λ e. subst (λ ts. pointwise f a ts ≡ true) (same_dense a b h g ((signed_items (dense a) (dense b)).0 e)) (are_same a))

@@ -1,11 +1,11 @@
 -- What is a multiple of terms, a sum or a difference, from what is a sum with a multiple.
-use Rattle.std.proofs.Common.{◌≡◌, ◌∙◌, ℕ, zero, suc, ℤ, pos, negsuc, ◌+ℤ◌, ◌*ℤ◌, neg_ℤ, List, [], ◌∷◌, length, replicate, set, Result, Ok, Err, refl, sym, ap, ap₂, subst, arith}
+use Rattle.std.proofs.Common.{◌≡◌, ◌∙◌, ℕ, zero, suc, ℤ, pos, negsuc, ◌*ℤ◌, neg_ℤ, List, [], ◌∷◌, length, replicate, set, Result, Ok, Err, refl, sym, ap, ap₂, subst, arith}
 use Rattle.std.proofs.lemmas.Int.{ints}
 use Rattle.std.proofs.Math.IntN.{+ℤ_idl}
 use Rattle.smallvec.specs.SmallVec.{SmallVec}
 use Rattle.pc_rows.specs.declared.row.TheConstants.{VARIABLES}
 use Rattle.pc_rows.specs.declared.terms.Term.{Term}
-use Rattle.pc_rows.specs.Linear.{InRange, AllInRange, add_lists, scale_list, negate_list}
+use Rattle.pc_rows.specs.Linear.{AllInRange, add_lists, scale_list, negate_list}
 use Rattle.pc_rows.specs.Substitution.{CoefficientsFit}
 use Rattle.pc_rows.specs.Terms.{Rises, TermsIff, dense}
 use Rattle.pc_rows.specs.Merges.{MultipleFits}
@@ -21,9 +21,9 @@ known_iff : {E : Type 0} (r : Result (SmallVec Term) E) (a : List ℤ) (k : ℤ)
     TermsIff r (MultipleFits a k b) (add_lists a (scale_list k b)) → TermsIff r (AllInRange (add_lists a ws)) (add_lists a ws)
 known_iff r a k b ws e all h =
     terms_iff r (MultipleFits a k b) (AllInRange (add_lists a ws)) (add_lists a (scale_list k b)) (add_lists a ws)
-        (λ f. subst (λ zs. AllInRange (add_lists a zs)) e f.1)
-        (λ f. (subst AllInRange (sym e) all, subst (λ zs. AllInRange (add_lists a zs)) (sym e) f))
-        (ap (add_lists a) e) h
+    (λ f. subst (λ zs. AllInRange (add_lists a zs)) e f.1)
+    (λ f. (subst AllInRange (sym e) all, subst (λ zs. AllInRange (add_lists a zs)) (sym e) f))
+    (ap (add_lists a) e) h
 
 pub sums_iff : {E : Type 0} (r : Result (SmallVec Term) E) (a b : List Term) (k : ℤ) → Rises 0 b → k ≡ pos 1 →
     TermsIff r (MultipleFits (dense a) k (dense b)) (add_lists (dense a) (scale_list k (dense b))) →
@@ -56,9 +56,9 @@ pub products_iff : {E : Type 0} (r : Result (SmallVec Term) E) (none b : List Te
     TermsIff r (AllInRange (scale_list k (dense b))) (scale_list k (dense b))
 products_iff r none b k empty f =
     let e : add_lists (dense none) (scale_list k (dense b)) ≡ scale_list k (dense b) =
-        ap (λ zs. add_lists zs (scale_list k (dense b))) (ap dense empty ∙ dense_none) ∙ add_zeros VARIABLES (scale_list k (dense b)) (length-scale_list k (dense b) ∙ length-dense b) in
+    ap (λ zs. add_lists zs (scale_list k (dense b))) (ap dense empty ∙ dense_none) ∙ add_zeros VARIABLES (scale_list k (dense b)) (length-scale_list k (dense b) ∙ length-dense b) in
     terms_iff r (MultipleFits (dense none) k (dense b)) (AllInRange (scale_list k (dense b))) (add_lists (dense none) (scale_list k (dense b))) (scale_list k (dense b))
-        (λ g. g.0) (λ g. (g, subst AllInRange (sym e) g)) e f
+    (λ g. g.0) (λ g. (g, subst AllInRange (sym e) g)) e f
 
 pub opposites_iff : {E : Type 0} (r : Result (SmallVec Term) E) (b : List Term) (k : ℤ) → k ≡ negsuc 0 →
     TermsIff r (AllInRange (scale_list k (dense b))) (scale_list k (dense b)) →
@@ -66,7 +66,7 @@ pub opposites_iff : {E : Type 0} (r : Result (SmallVec Term) E) (b : List Term) 
 opposites_iff r b k one f =
     let e : scale_list k (dense b) ≡ negate_list (dense b) = ap (λ z. scale_list z (dense b)) one ∙ scale_minus_one (dense b) in
     terms_iff r (AllInRange (scale_list k (dense b))) (AllInRange (negate_list (dense b))) (scale_list k (dense b)) (negate_list (dense b))
-        (subst AllInRange e) (subst AllInRange (sym e)) e f
+    (subst AllInRange e) (subst AllInRange (sym e)) e f
 
 -- a multiple of the form is added to what is left of the row
 pub carried_iff : {E : Type 0} (r : Result (SmallVec Term) E) (c : ℤ) (rest row : List ℤ) (x : ℕ) (form : List ℤ) → rest ≡ set row x (pos 0) →
@@ -74,7 +74,7 @@ pub carried_iff : {E : Type 0} (r : Result (SmallVec Term) E) (c : ℤ) (rest ro
     TermsIff r (CoefficientsFit c row x form) (add_lists (scale_list c form) (set row x (pos 0)))
 carried_iff r c rest row x form is f =
     let e : add_lists rest (scale_list c form) ≡ add_lists (scale_list c form) (set row x (pos 0)) =
-        ap (λ zs. add_lists zs (scale_list c form)) is ∙ add_comm (set row x (pos 0)) (scale_list c form) in
+    ap (λ zs. add_lists zs (scale_list c form)) is ∙ add_comm (set row x (pos 0)) (scale_list c form) in
     terms_iff r (MultipleFits rest c form) (CoefficientsFit c row x form) (add_lists rest (scale_list c form)) (add_lists (scale_list c form) (set row x (pos 0)))
-        (λ g. record { products = g.0; sums = subst AllInRange e g.1 })
-        (λ g. (g.products, subst AllInRange (sym e) g.sums)) e f
+    (λ g. record { products = g.0; sums = subst AllInRange e g.1 })
+    (λ g. (g.products, subst AllInRange (sym e) g.sums)) e f

@@ -1,5 +1,5 @@
 -- What all that stands on rows cites of them.
-use Rattle.std.specs.Prelude.{◌≡◌, ◌↔◌, ℕ, ◌+◌, ◌*◌, ◌^◌, ◌<◌, true, ℤ, pos, ◌+ℤ◌, ◌-ℤ◌, ◌*ℤ◌, neg_ℤ, ◌≤ℤ◌, ◌<ℤ◌, List, ◌++◌, length, replicate, slice_index_or, Option, MatchOption}
+use Rattle.std.specs.Prelude.{◌≡◌, ◌↔◌, ℕ, ◌+◌, ◌*◌, ◌^◌, ◌<◌, true, ℤ, pos, ◌+ℤ◌, ◌-ℤ◌, ◌*ℤ◌, neg_ℤ, ◌<ℤ◌, List, ◌++◌, length, replicate, slice_index_or, Option, MatchOption}
 use Rattle.std.specs.List.{AllByRecursion}
 use Rattle.pc_rows.specs.Linear.{Linear, State, value, Meets, MeetsAll, sum_of, difference_of, scaled_by, negation, above_of, zero_from, first_of, IsOver, is_number, IsNumber, coefficient, of_constant, with_coefficient, is_in_range, IsInRange}
 use Rattle.pc_rows.specs.Bounds.{IsWithin, Within, AllWithin}

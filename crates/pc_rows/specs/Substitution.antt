@@ -81,4 +81,4 @@ pub record CarryFits (r : Linear) (x : ℕ) (form : Linear) (lo hi : Option ℤ)
 abbrev pub SubstituteFits : Linear → ℕ → Linear → Option ℤ → Option ℤ → Type 0
 SubstituteFits r x form lo hi =
     MatchBool (is_zero (coefficient r x)) (Unit {0})
-        (MatchBool (needs_open_end (coefficient r x) lo hi) (Unit {0}) (CarryFits r x form lo hi))
+    (MatchBool (needs_open_end (coefficient r x) lo hi) (Unit {0}) (CarryFits r x form lo hi))

@@ -63,8 +63,7 @@ impl Row {
     }
 
     /// The allocator that the terms never ask.
-    fn alloc(&self) -> Global
-    {
+    fn alloc(&self) -> Global {
         *self.terms.allocator()
     }
 
@@ -155,11 +154,7 @@ impl Row {
         ensures { OkIff result (IsInRange (sum_of self.now other.now)) (sum_of self.now other.now) }
     {
         let constant = self.constant.plus(other.constant)?;
-        let terms = sums(
-            self.alloc(),
-            self.terms.as_slice(),
-            other.terms.as_slice(),
-        )?;
+        let terms = sums(self.alloc(), self.terms.as_slice(), other.terms.as_slice())?;
         Ok(Row { constant, terms })
     }
 
@@ -168,11 +163,7 @@ impl Row {
         ensures { OkIff result (IsInRange (difference_of self.now other.now)) (difference_of self.now other.now) }
     {
         let constant = self.constant.plus(other.constant.negated())?;
-        let terms = differences(
-            self.alloc(),
-            self.terms.as_slice(),
-            other.terms.as_slice(),
-        )?;
+        let terms = differences(self.alloc(), self.terms.as_slice(), other.terms.as_slice())?;
         Ok(Row { constant, terms })
     }
 
@@ -238,11 +229,7 @@ impl Row {
         ensures { OkIff result (IsInRange (above_of self.now other.now)) (above_of self.now other.now) }
     {
         let constant = self.constant.above(other.constant)?;
-        let terms = differences(
-            self.alloc(),
-            self.terms.as_slice(),
-            other.terms.as_slice(),
-        )?;
+        let terms = differences(self.alloc(), self.terms.as_slice(), other.terms.as_slice())?;
         Ok(Row { constant, terms })
     }
 
@@ -296,6 +283,7 @@ impl Row {
     pub fn is_at_most(&self, other: &Row) -> bool
         ensures { result ≡ is_at_most self.now other.now }
     {
-        are_same(self.terms.as_slice(), other.terms.as_slice()) && self.constant.is_at_most(other.constant)
+        are_same(self.terms.as_slice(), other.terms.as_slice())
+            && self.constant.is_at_most(other.constant)
     }
 }

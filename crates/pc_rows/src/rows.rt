@@ -158,7 +158,11 @@ fn joined_len(a: &Rows, b: &Rows) -> usize
 fn rows_added(a: &Rows, before: &[Row], r: &Row) -> usize
     ensures { result ≡ (if is_covered r.now a.now || list_any (λ x. is_at_most x r.now) before.now then 0 else 1) }
 {
-    if covered(r, a) || some_is_at_most(before, r) { 0 } else { 1 }
+    if covered(r, a) || some_is_at_most(before, r) {
+        0
+    } else {
+        1
+    }
 }
 
 fn add(all: &mut Rows, r: &Row) -> Result<(), RowsFault>

@@ -136,12 +136,7 @@ pub(crate) fn opposites(alloc: Global, b: &[Term]) -> Result<Terms, Past>
 
 /// The terms of `a` plus `k` times those of `b`, by a merge. `Past` exactly where one of the
 /// products or of the sums is not in range.
-pub(crate) fn plus_multiple(
-    alloc: Global,
-    a: &[Term],
-    k: Number,
-    b: &[Term],
-) -> Result<Terms, Past>
+pub(crate) fn plus_multiple(alloc: Global, a: &[Term], k: Number, b: &[Term]) -> Result<Terms, Past>
     requires left { Rises 0 a.now }
     requires right { Rises 0 b.now }
     ensures { TermsIff result (MultipleFits (dense a.now) k (dense b.now)) (add_lists (dense a.now) (scale_list k (dense b.now))) }

@@ -23,10 +23,10 @@ pub returns-clause-variable : goal.returns-clause-variable
 returns-clause-variable c =
     let within : c.args.k < length c.as_slice.result.now = omega (arith, c.requires, terms_count _ _ _ c.self.view_is c.self.invariant, ap length c.as_slice.ensures) in
     subst (λ (t : Term). t.variable < VARIABLES) (sym c.index-as_slice-k.is)
-        (term_keeps _ _ _ c.self.view_is c.self.invariant c.as_slice.result.now c.args.k c.index-as_slice-k.result c.as_slice.ensures within).0
+    (term_keeps _ _ _ c.self.view_is c.self.invariant c.as_slice.result.now c.args.k c.index-as_slice-k.result c.as_slice.ensures within).0
 
 pub returns-clause-not_zero : goal.returns-clause-not_zero
 returns-clause-not_zero c =
     let within : c.args.k < length c.as_slice.result.now = omega (arith, c.requires, terms_count _ _ _ c.self.view_is c.self.invariant, ap length c.as_slice.ensures) in
     subst (λ (t : Term). t.coefficient ≢ pos 0) (sym c.index-as_slice-k.is)
-        (term_keeps _ _ _ c.self.view_is c.self.invariant c.as_slice.result.now c.args.k c.index-as_slice-k.result c.as_slice.ensures within).1
+    (term_keeps _ _ _ c.self.view_is c.self.invariant c.as_slice.result.now c.args.k c.index-as_slice-k.result c.as_slice.ensures within).1
