@@ -1,6 +1,6 @@
 //! Lists of rows.
 
-ghost use Rattle.std.specs.Prelude.{◌≡◌, ◌<◌, ◌≤◌, [], length, slice_get, IfOk, Some, ◌||◌, if◌then◌else◌};
+ghost use Rattle.std.specs.Prelude.{◌≡◌, ◌<◌, ◌≤◌, [], length, slice_get, IfOk, IsTrue, ◌↔◌, Some, ◌||◌, if◌then◌else◌};
 ghost use Rattle.std.specs.List.{AllByRecursion, list_any};
 ghost use Rattle.pc_rows.specs.Linear.{IsRow};
 ghost use Rattle.pc_rows.specs.Joins.{is_at_most, is_covered, joined, PushIs, AddIs, JoinIs};
@@ -122,10 +122,20 @@ fn some_is_at_most(rows: &[Row], r: &Row) -> bool
 pub fn join(a: &Rows, b: &Rows) -> Result<Rows, RowsFault>
     ensures { JoinIs a.now b.now result }
 {
-    if ROWS < joined_len(a, b) {
+    if !has_room(a, b) {
         return Err(RowsFault::Full);
     }
     join_all(a, b)
+}
+
+/// Whether the join has at most `ROWS` rows. It needs no memory.
+fn has_room(a: &Rows, b: &Rows) -> bool
+    ensures { IsTrue result ↔ (length (joined a.now b.now) ≤ ROWS) }
+{
+    if a.len() + b.len() <= ROWS {
+        return true;
+    }
+    joined_len(a, b) <= ROWS
 }
 
 /// The join, which has at most `ROWS` rows.
