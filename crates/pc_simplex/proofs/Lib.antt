@@ -1,0 +1,5 @@
+pub mod Counting
+pub mod Places
+pub mod Picking
+pub mod Ending
+pub mod Answering
