@@ -3,3 +3,4 @@ pub mod Places
 pub mod Picking
 pub mod Ending
 pub mod Answering
+pub mod Worked
