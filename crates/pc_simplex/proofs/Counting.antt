@@ -73,6 +73,7 @@ above_step i m old new e h = subst (IsAbove (i + 1)) (sym e) (all old h)
     last : (t : Bool) → IsAbove (i + 1) (cond t [] ((record { index = i; multiplier = m }) ∷ []))
     last true = tt
     last false = (omega arith, tt)
+
     all : (ps : List Part) → IsAbove i ps → IsAbove (i + 1) (ps ++ part_of i m)
     all [] h = last (is_zero m)
     all (p ∷ ps) h = (omega (arith, h.0), all ps h.1)

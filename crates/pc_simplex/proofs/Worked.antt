@@ -68,8 +68,8 @@ before = record {
   denominator = pos 1;
   columns = Variable 0 ∷ Variable 1 ∷ [];
   lines =
-    (record { label = Row 0; constant = negsuc 2; numbers = pos 2 ∷ pos 1 ∷ [] })
-    ∷ (record { label = Row 1; constant = pos 5; numbers = negsuc 0 ∷ pos 3 ∷ [] }) ∷ [];
+      (record { label = Row 0; constant = negsuc 2; numbers = pos 2 ∷ pos 1 ∷ [] })
+      ∷ (record { label = Row 1; constant = pos 5; numbers = negsuc 0 ∷ pos 3 ∷ [] }) ∷ [];
 }
 
 first_choice : chosen before ≡ Exchange 0 0
@@ -80,8 +80,8 @@ after : exchanged before 0 0 ≡ record {
   denominator = pos 2;
   columns = Row 0 ∷ Variable 1 ∷ [];
   lines =
-    (record { label = Variable 0; constant = pos 3; numbers = pos 1 ∷ negsuc 0 ∷ [] })
-    ∷ (record { label = Row 1; constant = pos 7; numbers = negsuc 0 ∷ pos 7 ∷ [] }) ∷ [];
+      (record { label = Variable 0; constant = pos 3; numbers = pos 1 ∷ negsuc 0 ∷ [] })
+      ∷ (record { label = Row 1; constant = pos 7; numbers = negsuc 0 ∷ pos 7 ∷ [] }) ∷ [];
 }
 after = refl
 

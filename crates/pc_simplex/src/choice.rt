@@ -66,7 +66,11 @@ fn may_enter(label: Label, number: Number) -> Option<Label>
     ensures { result ≡ entering label number }
 {
     match label {
-        Label::Variable(v) => if number.is_zero() { None } else { Some(Label::Variable(v)) },
+        Label::Variable(v) => if number.is_zero() {
+            None
+        } else {
+            Some(Label::Variable(v))
+        },
         Label::Row(i) => {
             if number.is_at_most(Number::new(0)) {
                 None
@@ -84,7 +88,11 @@ fn earlier(best: Option<Pick>, index: usize, candidate: Option<Label>) -> Option
         None => best,
         Some(label) => match best {
             None => Some(Pick { index, label }),
-            Some(p) => if label.is_before(p.label) { Some(Pick { index, label }) } else { Some(p) },
+            Some(p) => if label.is_before(p.label) {
+                Some(Pick { index, label })
+            } else {
+                Some(p)
+            },
         },
     }
 }

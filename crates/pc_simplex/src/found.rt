@@ -48,10 +48,7 @@ pub fn proof(alloc: Global, premises: usize, t: &Table, r: usize) -> Result<Proo
     for i in 0..premises {
         add_part(&mut parts, i as u32, multiplier_of(t, line, i as u32))?;
     }
-    Ok(Proof::new(
-        multiplier_of(t, line, premises as u32),
-        parts,
-    ))
+    Ok(Proof::new(multiplier_of(t, line, premises as u32), parts))
 }
 
 /// Puts a part at the end, unless its multiplier is 0.
@@ -80,11 +77,7 @@ fn multiplier_of(t: &Table, line: &Line, i: u32) -> Number
 }
 
 /// The number in the column with the label, or 0 where there is none.
-fn number_of(
-    label: Label,
-    columns: &[Label; VARIABLES],
-    numbers: &[Number; VARIABLES],
-) -> Number
+fn number_of(label: Label, columns: &[Label; VARIABLES], numbers: &[Number; VARIABLES]) -> Number
     ensures { result ≡ number_of label columns.now numbers.now }
 {
     for k in 0..VARIABLES {

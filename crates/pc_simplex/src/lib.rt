@@ -13,7 +13,6 @@ mod found;
 mod guess;
 mod label;
 mod line;
-
 mod table;
 mod turns;
 

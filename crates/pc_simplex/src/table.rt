@@ -116,24 +116,14 @@ impl Table {
     {
         let pivot = Pivot::new(self.denominator, self.line(r), j);
         let label = self.line(r).label();
-        change_lines(
-            self.lines.as_mut_slice(),
-            &pivot,
-            self.columns[j],
-            r,
-        )?;
+        change_lines(self.lines.as_mut_slice(), &pivot, self.columns[j], r)?;
         self.columns[j] = label;
         self.denominator = pivot.denominator_after();
         Ok(())
     }
 }
 
-fn change_lines(
-    lines: &mut [Line],
-    pivot: &Pivot,
-    label: Label,
-    r: usize,
-) -> Result<(), Past>
+fn change_lines(lines: &mut [Line], pivot: &Pivot, label: Label, r: usize) -> Result<(), Past>
     ensures { ChangeIs (lines_fit pivot.now r 0 lines.old) (lines_after pivot.now label r 0 lines.old) result lines.new }
 {
     for i in 0..lines.len() {

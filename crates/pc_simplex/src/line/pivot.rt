@@ -122,13 +122,7 @@ impl Pivot {
         Ok(())
     }
 
-    fn number_after(
-        &self,
-        factor: Number,
-        here: bool,
-        x: Number,
-        y: Number,
-    ) -> Result<Number, Past>
+    fn number_after(&self, factor: Number, here: bool, x: Number, y: Number) -> Result<Number, Past>
         ensures { OkIff result (number_fits self.now factor here x y ≡ true) (number_after self.now factor here x y) }
     {
         if here {

@@ -24,6 +24,7 @@ pub returns : goal.returns
 returns c =
     let p = c.args.p.now in
     let ps = c.args.s.now.premises in
-    let behind = told_behind p ps c.loop-i.i (omega (arith, c.len-i-end.ensures.value)) in
-    (λ h. each_end (IsTold p) ps (negation c.args.s.now.goal) (c.loop-i.invariant.back behind) (subst (λ (r : Linear). IsTold p r) c.requires (c.is_told-2.ensures.0 h)),
-     λ h. c.is_told-2.ensures.1 (subst (λ (r : Linear). IsTold p r) (sym c.requires) (the_last (IsTold p) ps (negation c.args.s.now.goal) h)))
+    let behind = told_behind p ps c.loop-i.i (omega (arith, c.len-i-end.ensures.value)) in (
+      λ h. each_end (IsTold p) ps (negation c.args.s.now.goal) (c.loop-i.invariant.back behind) (subst (λ (r : Linear). IsTold p r) c.requires (c.is_told-2.ensures.0 h)),
+      λ h. c.is_told-2.ensures.1 (subst (λ (r : Linear). IsTold p r) (sym c.requires) (the_last (IsTold p) ps (negation c.args.s.now.goal) h)),
+    )
