@@ -1,13 +1,12 @@
 -- What a search answers, by how its turns end.
-use Rattle.std.proofs.Common.{◌≡◌, ℕ, ℤ, pos, ◌≤ℤ◌, ◌≤◌, ◌+◌, refl, sym, subst, ◌∙◌, ap, arith, Bool, true, false, cond, List, [], ◌∷◌, ◌++◌, length, drop, Option, Some, Result, Ok, Err}
+use Rattle.std.proofs.Common.{◌≡◌, ℕ, ℤ, pos, ◌≤ℤ◌, ◌≤◌, ◌+◌, refl, sym, subst, ◌∙◌, ap, Bool, true, false, cond, List, [], ◌∷◌, length, drop, Some, Result, Ok, Err}
 use Rattle.std.specs.List.{AllByRecursion}
 use Rattle.std.specs.Prelude.{slice_get}
 use Rattle.std.proofs.lemmas.List.{drop_all}
 use Rattle.pc_rows.specs.declared.rows.NoMemory.{NoMemory}
 use Rattle.pc_rows.specs.Linear.{Linear, IsInRange, is_in_range, negation}
 use Rattle.pc_rows.specs.Evidence.{System, Proof, Point as Place}
-use Rattle.pc_rows.specs.Points.{Refutes, MeetsAt, AllMeetAt}
-use Rattle.pc_rows.specs.Shows.{Shows}
+use Rattle.pc_rows.specs.Points.{Refutes, AllMeetAt}
 use Rattle.pc_rows.proofs.Farkas.{refuted_is_not_shown}
 use Rattle.pc_rows.proofs.Ranges.{range_is_meant}
 use Rattle.pc_simplex.specs.declared.guess.Guess.{Guess}

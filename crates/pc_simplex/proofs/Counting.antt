@@ -1,11 +1,10 @@
 -- Lists that are made by counting.
-use Rattle.std.proofs.Common.{◌≡◌, ℕ, zero, suc, ◌+◌, ◌-◌, ◌<◌, ◌≤◌, ℤ, pos, refl, sym, ◌∙◌, ap, subst, arith, List, [], ◌∷◌, ◌++◌, length, take, Option, Some, Bool, true, false, cond}
+use Rattle.std.proofs.Common.{◌≡◌, ℕ, zero, suc, ◌+◌, ◌-◌, ◌<◌, ◌≤◌, ℤ, sym, ◌∙◌, ap, subst, arith, List, [], ◌∷◌, ◌++◌, length, take, Some, Bool, true, false, cond}
 use Rattle.std.specs.Prelude.{slice_get}
 use Rattle.std.proofs.lemmas.List.{append_assoc, length-take-le}
 use Rattle.pc_rows.specs.declared.proof.Part.{Part}
 use Rattle.pc_rows.specs.Linear.{Linear, is_zero}
 use Rattle.pc_rows.specs.Evidence.{IsAbove}
-use Rattle.pc_simplex.specs.declared.label.Label.{Label}
 use Rattle.pc_simplex.specs.declared.label.Label.TheVariants.{Variable, Row}
 use Rattle.pc_simplex.specs.Values.{Line, Table}
 use Rattle.pc_simplex.specs.Turns.{variables_from, lines_of}

@@ -1,6 +1,5 @@
 -- How the turns end, by the choice at a table.
 use Rattle.std.proofs.Common.{◌≡◌, ℕ, zero, suc, ◌<◌, refl, sym, ◌∙◌, ap, Bool, true, false, cond, length, Some, None}
-use Rattle.pc_simplex.specs.declared.choice.Choice.{Choice}
 use Rattle.pc_simplex.specs.declared.choice.Choice.TheVariants.{Met, Stuck, Exchange}
 use Rattle.pc_simplex.specs.declared.guess.Guess.{Guess}
 use Rattle.pc_simplex.specs.declared.guess.Guess.TheVariants.{Shown, Point, GaveUp}

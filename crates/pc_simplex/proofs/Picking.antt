@@ -1,5 +1,5 @@
 -- What is picked is one of those that may be.
-use Rattle.std.proofs.Common.{◌≡◌, ◌≢◌, ℕ, zero, suc, ◌+◌, ◌≤◌, ◌<◌, ℤ, pos, negsuc, refl, sym, ◌∙◌, ap, arith, List, [], ◌∷◌, length, get_or, drop, Bool, true, false, cond, Option, Some, None, IfSome}
+use Rattle.std.proofs.Common.{◌≡◌, ◌≢◌, ℕ, zero, suc, ◌+◌, ◌≤◌, ◌<◌, ℤ, pos, refl, sym, ◌∙◌, ap, arith, List, [], ◌∷◌, length, get_or, drop, Bool, true, false, cond, Option, Some, None, IfSome}
 use Rattle.std.specs.Prelude.{int_lt}
 use Rattle.pc_rows.specs.Linear.{is_zero}
 use Rattle.pc_simplex.specs.declared.label.Label.{Label}

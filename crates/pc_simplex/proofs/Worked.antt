@@ -1,5 +1,5 @@
 -- The turns at worked systems: x is variable 0 and y variable 1.
-use Rattle.std.proofs.Common.{◌≡◌, ◌-◌, ◌^◌, ℤ, pos, negsuc, List, [], ◌∷◌, ◌++◌, replicate, refl}
+use Rattle.std.proofs.Common.{◌≡◌, ◌-◌, ◌^◌, ℤ, pos, negsuc, List, [], ◌∷◌, replicate, refl}
 use Rattle.pc_rows.specs.declared.row.TheConstants.{VARIABLES}
 use Rattle.pc_rows.specs.Linear.{Linear}
 use Rattle.pc_simplex.specs.declared.label.Label.TheVariants.{Variable, Row}

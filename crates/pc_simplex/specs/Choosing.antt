@@ -1,5 +1,5 @@
 -- Which line and which column of a table are exchanged.
-use Rattle.std.specs.Prelude.{ℕ, zero, suc, ◌+◌, ◌==◌, nat_lt, ℤ, pos, int_lt, Bool, true, false, List, [], ◌∷◌, Option, Some, None, slice_index_or, if◌then◌else◌, ◌≢◌, ◌<◌, length}
+use Rattle.std.specs.Prelude.{ℕ, ◌+◌, nat_lt, ℤ, pos, int_lt, Bool, true, false, List, [], ◌∷◌, Option, Some, None, slice_index_or, if◌then◌else◌, ◌≢◌, ◌<◌, length}
 use Rattle.pc_rows.specs.declared.row.TheConstants.{VARIABLES}
 use Rattle.pc_rows.specs.Linear.{is_zero}
 use Rattle.pc_simplex.specs.declared.label.Label.{Label}

@@ -5,7 +5,6 @@ use Rattle.pc_simplex.specs.declared.guess.Guess.TheVariants as guess
 use Rattle.pc_simplex.specs.declared.turns.End.{End}
 use Rattle.pc_simplex.specs.declared.turns.End.TheVariants.{Met, Stuck, GaveUp}
 use Rattle.pc_simplex.specs.Values.{Table}
-use Rattle.pc_simplex.specs.Choosing.{chosen}
 use Rattle.pc_simplex.specs.Found.{point_of, proof_of}
 use Rattle.pc_simplex.specs.Turns.{turns}
 

@@ -1,5 +1,5 @@
 -- What a search answers.
-use Rattle.std.specs.Prelude.{◌≡◌, pos, ◌≤ℤ◌, List, Result, Ok, Err}
+use Rattle.std.specs.Prelude.{◌≡◌, pos, ◌≤ℤ◌, Result, Ok, Err}
 use Rattle.std.specs.List.{AllByRecursion}
 use Rattle.pc_rows.specs.declared.rows.NoMemory.{NoMemory}
 use Rattle.pc_rows.specs.Linear.{Linear}

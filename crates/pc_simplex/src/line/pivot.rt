@@ -135,6 +135,10 @@ impl Pivot {
     fn cell(&self, factor: Number, x: Number, y: Number) -> Result<Number, Past>
         ensures { OkIff result (cell_fits self.now factor x y ≡ true) (cell self.now factor x y) }
     {
+        // most numbers of a table are 0, and then nothing changes
+        if x.is_zero() && y.is_zero() {
+            return Ok(x);
+        }
         let difference = difference(self.entry, x, factor, y)?;
         Ok(signed(self.up, quotient(difference, self.denominator)?))
     }
@@ -148,6 +152,18 @@ fn difference(a: Number, x: Number, b: Number, y: Number) -> Result<Number, Past
 
 /// The quotient. `Past` exactly where it is not whole or not in range.
 fn quotient(n: Number, d: Number) -> Result<Number, Past>
+    requires { pos 1 ≤ℤ d }
+    ensures { OkIff result ((int_rem n d ≡ pos 0) × InRange (int_div n d)) (int_div n d) }
+{
+    // most denominators are 1, and a division of wide numbers is slow
+    if d == Number::new(1) {
+        let _in_range = n.get();
+        return Ok(n);
+    }
+    divided(n, d)
+}
+
+fn divided(n: Number, d: Number) -> Result<Number, Past>
     requires { pos 1 ≤ℤ d }
     ensures { OkIff result ((int_rem n d ≡ pos 0) × InRange (int_div n d)) (int_div n d) }
 {

@@ -1,4 +1,4 @@
-use Rattle.std.proofs.Common.{take, drop}
+use Rattle.std.proofs.Common.{drop}
 use Rattle.std.specs.List.{AllByRecursion}
 use Rattle.pc_simplex.specs.Searching.{IsTold}
 use Rattle.pc_simplex.proofs.guess.are_told.Given as goal

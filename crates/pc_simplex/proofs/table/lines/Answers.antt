@@ -1,4 +1,4 @@
-use Rattle.std.proofs.Common.{◌∙◌, ◌++◌, [], ◌∷◌, ap, sym, arith, List, length}
+use Rattle.std.proofs.Common.{◌∙◌, ◌++◌, [], ◌∷◌, ap, sym, arith, List}
 use Rattle.std.proofs.lemmas.List.{take_all}
 use Rattle.pc_rows.specs.Linear.{Linear}
 use Rattle.pc_simplex.specs.Values.{Line}
