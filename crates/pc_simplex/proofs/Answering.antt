@@ -18,7 +18,7 @@ use Rattle.pc_simplex.specs.Values.{Table}
 use Rattle.pc_simplex.specs.Found.{point_of, proof_of}
 use Rattle.pc_simplex.specs.Turns.{turns, first_table, found}
 use Rattle.pc_simplex.specs.Ending.{found_at, EndIs}
-use Rattle.pc_simplex.specs.Searching.{IsEvidence, IsTold, AreTold, Fails, SearchIs, PointIs, ProofIs}
+use Rattle.pc_simplex.specs.Searching.{IsEvidence, IsTold, AreTold, Fails, SearchIs, EvidenceIs, PointIs, ProofIs}
 use Rattle.pc_simplex.proofs.Places.{left_from, each_but_last, the_last}
 
 pub same_point : (p q : Place) → p.numerators ≡ q.numerators → p.denominator ≡ q.denominator → p ≡ q
@@ -77,17 +77,28 @@ module _ (s : System) where
       ∙ ends.found (length s.premises)
 
   point_is : (p : Place) (g : Guess) → found s ≡ Point p → PointIs s p g → SearchIs s (Ok g)
-  point_is p (Point q) at h =
-      let t = subst (Refutes s.premises s.goal) (sym h.0) (refutes s p h.2 h.1) in
-      (at ∙ ap Point (sym h.0), subst (AreTold s) (sym h.0) h.1, t, λ p g. refuted_is_not_shown s.premises s.goal p q g t)
+  point_is p (Point q) at h = (ap Point h.0 ∙ sym at, subst (AreTold s) (sym h.0) h.1)
   point_is p (Shown q) at h = absurd h
   point_is p GaveUp at h = subst (Fails s) (sym at) h
 
   proof_is : (p : Proof) (result : Result Guess NoMemory) → found s ≡ Shown p → ProofIs s p result → SearchIs s result
-  proof_is p (Ok (Shown q)) at h = (at ∙ ap Shown (sym h.0), subst (IsEvidence s) (sym h.0) h.1)
+  proof_is p (Ok (Shown q)) at h = (ap Shown h.0 ∙ sym at, subst (IsEvidence s) (sym h.0) h.1)
   proof_is p (Ok (Point q)) at h = absurd h
   proof_is p (Ok GaveUp) at h = subst (Fails s) (sym at) h
   proof_is p (Err e) at h = tt
+
+  pub point_is_evidence : (p : Place) (g : Guess) → PointIs s p g → EvidenceIs s (Ok g)
+  point_is_evidence p (Point q) h =
+      let refuted = subst (Refutes s.premises s.goal) (sym h.0) (refutes s p h.2 h.1) in
+      (refuted, λ r shown. refuted_is_not_shown s.premises s.goal r q shown refuted)
+  point_is_evidence p (Shown q) h = absurd h
+  point_is_evidence p GaveUp h = tt
+
+  pub proof_is_evidence : (p : Proof) (result : Result Guess NoMemory) → ProofIs s p result → EvidenceIs s result
+  proof_is_evidence p (Ok (Shown q)) h = subst (IsEvidence s) (sym h.0) h.1
+  proof_is_evidence p (Ok (Point q)) h = absurd h
+  proof_is_evidence p (Ok GaveUp) h = tt
+  proof_is_evidence p (Err e) h = tt
 
   pub point_answers : (first new : Table) (g : Guess) → IsInRange (negation s.goal) → first ≡ first_table s → EndIs PIVOTS first end.Met new → PointIs s (point_of new) g → SearchIs s (Ok g)
   point_answers first new g h same ends = point_is (point_of new) g (found_is first new end.Met h same ends)

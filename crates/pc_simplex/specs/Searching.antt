@@ -31,12 +31,19 @@ Fails s (Shown p) = IsEvidence s p → ⊥
 Fails s (Point p) = AreTold s p → ⊥
 Fails s GaveUp = Unit {0}
 
--- what the turns find is answered where it passes its check, with what follows of it; and a search gives up exactly where nothing is found, or what is found fails
+-- what the turns find is answered where it passes its check; and a search gives up exactly where nothing is found, or what is found fails
 abbrev pub SearchIs : System → Result Guess NoMemory → Type 0
-SearchIs s (Ok (Shown p)) = (found s ≡ Shown p) × IsEvidence s p
-SearchIs s (Ok (Point p)) = (found s ≡ Point p) × AreTold s p × Refutes s.premises s.goal p × ((q : Proof) → Shows s.premises s.goal q → ⊥)
+SearchIs s (Ok (Shown p)) = (Shown p ≡ found s) × IsEvidence s p
+SearchIs s (Ok (Point p)) = (Point p ≡ found s) × AreTold s p
 SearchIs s (Ok GaveUp) = Fails s (found s)
 SearchIs s (Err e) = Unit {0}
+
+-- a proof that shows the goal; or a point that refutes it, so that no proof does
+abbrev pub EvidenceIs : System → Result Guess NoMemory → Type 0
+EvidenceIs s (Ok (Shown p)) = IsEvidence s p
+EvidenceIs s (Ok (Point p)) = Refutes s.premises s.goal p × ((q : Proof) → Shows s.premises s.goal q → ⊥)
+EvidenceIs s (Ok GaveUp) = Unit {0}
+EvidenceIs s (Err e) = Unit {0}
 
 -- a point is answered where it is told; its denominator is at least 1
 abbrev pub PointIs : System → Place → Guess → Type 0

@@ -3,7 +3,7 @@
 ghost use Rattle.std.specs.Prelude.{◌≡◌, ◌<◌, ◌↔◌, true, length};
 ghost use Rattle.pc_rows.specs.Linear.{negation};
 ghost use Rattle.pc_simplex.specs.Found.{point_of, proof_of};
-ghost use Rattle.pc_simplex.specs.Searching.{SearchIs, PointIs, ProofIs, AreTold, IsTold};
+ghost use Rattle.pc_simplex.specs.Searching.{SearchIs, EvidenceIs, PointIs, ProofIs, AreTold, IsTold};
 
 use crate::found::{point, proof};
 use crate::table::Table;
@@ -25,7 +25,8 @@ pub enum Guess {
 
 /// Searches for a proof that the premises show the goal, or a point at which they do not.
 pub fn search(alloc: Global, s: &System) -> Result<Guess, NoMemory>
-    ensures { SearchIs s.now result }
+    ensures exact { SearchIs s.now result }
+    ensures evidence { EvidenceIs s.now result }
 {
     let negated = match s.goal().negated() {
         Ok(negated) => negated,
