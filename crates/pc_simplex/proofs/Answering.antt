@@ -19,7 +19,8 @@ use Rattle.pc_simplex.specs.Found.{point_of, proof_of}
 use Rattle.pc_simplex.specs.Turns.{turns, first_table, found}
 use Rattle.pc_simplex.specs.Ending.{found_at, EndIs}
 use Rattle.pc_simplex.specs.Searching.{IsEvidence, IsTold, AreTold, Fails, SearchIs, EvidenceIs, PointIs, ProofIs}
-use Rattle.pc_simplex.proofs.Places.{left_from, each_but_last, the_last}
+use Rattle.pc_rows.proofs.Adding.{drop_got}
+use Rattle.pc_rows.proofs.Joining.{each_left, each_right}
 
 pub same_point : (p q : Place) → p.numerators ≡ q.numerators → p.denominator ≡ q.denominator → p ≡ q
 same_point p q e f =
@@ -31,10 +32,10 @@ same_point p q e f =
 -- the rows from a place on, and those from the next
 
 pub told_here : (p : Place) (rs : List Linear) (i : ℕ) (r : Linear) → slice_get rs i ≡ Some r → AllByRecursion (IsTold p) (drop i rs) → IsTold p r × AllByRecursion (IsTold p) (drop (i + 1) rs)
-told_here p rs i r e h = subst (λ (z : List Linear). AllByRecursion (IsTold p) z) (left_from rs i r e) h
+told_here p rs i r e h = subst (λ (z : List Linear). AllByRecursion (IsTold p) z) (drop_got rs i r e) h
 
 pub told_before : (p : Place) (rs : List Linear) (i : ℕ) (r : Linear) → slice_get rs i ≡ Some r → IsTold p r → AllByRecursion (IsTold p) (drop (i + 1) rs) → AllByRecursion (IsTold p) (drop i rs)
-told_before p rs i r e g h = subst (λ (z : List Linear). AllByRecursion (IsTold p) z) (sym (left_from rs i r e)) (g, h)
+told_before p rs i r e g h = subst (λ (z : List Linear). AllByRecursion (IsTold p) z) (sym (drop_got rs i r e)) (g, h)
 
 pub told_behind : (p : Place) (rs : List Linear) (i : ℕ) → length rs ≤ i → AllByRecursion (IsTold p) (drop i rs)
 told_behind p rs i le = subst (λ (z : List Linear). AllByRecursion (IsTold p) z) (sym (drop_all i rs le)) tt
@@ -49,8 +50,8 @@ refutes : (s : System) (p : Place) → pos 1 ≤ℤ p.denominator → AreTold s 
 refutes s p d h =
     record {
       positive = d;
-      meets_premises = meets_each p s.premises (each_but_last (IsTold p) s.premises (negation s.goal) h);
-      meets_negation = (the_last (IsTold p) s.premises (negation s.goal) h).meets;
+      meets_premises = meets_each p s.premises (each_left (IsTold p) s.premises (negation s.goal ∷ []) h);
+      meets_negation = (each_right (IsTold p) s.premises (negation s.goal ∷ []) h).0.meets;
     }
 
 module _ (s : System) where
