@@ -7,7 +7,7 @@ pub const SOURCE_BYTES: usize = 1_048_576;
 pub const SCRIPT_BYTES: usize = 1_048_576;
 
 /// The most bytes of a certificate.
-pub const CERTIFICATE_BYTES: usize = 1_073_741_824;
+pub const CERTIFICATE_BYTES: usize = 2_147_483_648;
 
 /// The most alternatives of a condition.
 pub const ALTERNATIVES: usize = 9;
