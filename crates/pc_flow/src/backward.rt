@@ -20,7 +20,7 @@ pub fn back(e: &Edge, r: &Row) -> Result<Row, Past>
     match &e.what {
         What::Enter { params } => Ok(r.first(*params)),
         What::Test(_) => Ok(r.copy()),
-        What::Set { var, form, lo, hi } => substitute(r, *var, form, end(*lo), end(*hi)),
+        What::Set { var, form, lo, hi } => substitute(r, *var, form, Some(end(*lo)), Some(end(*hi))),
         What::Check(_) => Ok(r.copy()),
     }
 }

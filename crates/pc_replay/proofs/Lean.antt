@@ -6,7 +6,9 @@ use Rattle.pc_rows.specs.declared.rows.TheConstants.{ROWS}
 use Rattle.pc_rows.specs.Linear.{Linear}
 use Rattle.pc_rows.specs.Joins.{IsRows}
 use Rattle.pc_rows.specs.Evidence.{Proof}
-use Rattle.pc_flow.specs.Arc.{What, Enter, Test, Set, Check, Arc}
+use Rattle.pc_flow.specs.declared.what.What.{What}
+use Rattle.pc_flow.specs.declared.what.What.TheVariants.{Enter, Test, Set, Check}
+use Rattle.pc_flow.specs.Arc.{Arc}
 use Rattle.pc_flow.specs.Carry.{back_all, owes, test_rows}
 use Rattle.pc_flow.specs.Flow.{Flow}
 use Rattle.pc_flow.proofs.Lists.{each_more}
