@@ -5,18 +5,20 @@ ghost use Rattle.pc_show.specs.Canonical as spec;
 ghost use Rattle.pc_show.specs.Pieces.{bytes_of};
 ghost use Rattle.pc_program.specs.Sane.{names_below};
 
-use pc_language::end_of;
 use crate::showing::exprs::push_expr;
 use crate::showing::level::Level;
 use pc_program::Right;
 use pc_language::{Bound, Choice};
 use pc_text::{Names, NoMemory, Text};
 
-/// Appends an end of an interval.
+/// Appends an end of an interval, which is a `*` where it is open.
 fn push_bound(text: &mut Text, bound: Bound) -> Result<(), NoMemory>
     ensures { OnOk result (text.new ≡ text.old ++ bytes_of (spec.bound_pieces bound)) }
 {
-    text.push_number(end_of(bound))
+    match bound {
+        Bound::At(number) => text.push_number(number),
+        Bound::Open => text.push_all(b"*"),
+    }
 }
 
 /// Appends an interval with the sign before it, or nothing.
