@@ -18,8 +18,8 @@ use Rattle.pc_certificate.specs.declared.certificate.Annotated.{Annotated}
 use Rattle.pc_certificate.specs.declared.certificate.TheConstants.{POINTS}
 use Rattle.pc_language.specs.declared.limits.TheConstants.{EDGES}
 use Rattle.pc_text.specs.Words.{Words}
-use Rattle.pc_certificate.specs.Certificate.{IsAnnotation, IsAnnotated}
-use Rattle.pc_cert.specs.Lengths.{row_bytes, proof_bytes, point_bytes, edge_bytes, alternative_bytes, text_bytes, NamesPremises, IsLean, AreLean, TextsAreShort}
+use Rattle.pc_certificate.specs.Certificate.{IsAnnotation, IsAnnotated, NamesPremises, IsLean, AreLean}
+use Rattle.pc_cert.specs.Lengths.{row_bytes, proof_bytes, point_bytes, edge_bytes, alternative_bytes, text_bytes, TextsAreShort}
 use Rattle.pc_cert.specs.CertificateTexts.{counts, row_line, proof_line, point_lines, edge_lines, numbered, alternative_lines, line_text, lines_text}
 use Rattle.pc_cert.proofs.RowSpelling.{range_of_front}
 use Rattle.pc_cert.proofs.ProofSpelling.{from_zero}
@@ -241,10 +241,7 @@ texts_are_short c is kept lean =
       length-append (line_text (codes "precond" ∷ codes "1" ∷ [])) (line_text graph ++ lines_text (middle ++ (codes "end" ∷ []) ∷ [])),
     )
 
--- ---- nine alternatives, at limits that are used and at greater ones
+-- ---- nine alternatives, at the limits
 
-nine : nat_le (text_bytes 1025 1024 16 32 48 9) 1073741824 ≡ true
+nine : nat_le (text_bytes POINTS EDGES VARIABLES ROWS PREMISES 9) 2147483648 ≡ true
 nine = refl
-
-nine_larger : nat_le (text_bytes 2049 2048 32 32 48 9) 2147483648 ≡ true
-nine_larger = refl

@@ -1,14 +1,12 @@
 -- How long the text of a certificate may be.
-use Rattle.std.specs.Prelude.{ℕ, ◌+◌, ◌*◌, ◌<◌, ◌≤◌, ◌⊎◌, List, length}
+use Rattle.std.specs.Prelude.{ℕ, ◌+◌, ◌*◌, ◌≤◌, length}
 use Rattle.std.specs.List.{AllByRecursion}
 use Rattle.pc_rows.specs.declared.row.TheConstants.{VARIABLES}
 use Rattle.pc_rows.specs.declared.rows.TheConstants.{ROWS}
 use Rattle.pc_rows.specs.declared.system.TheConstants.{PREMISES}
-use Rattle.pc_rows.specs.Evidence.{Proof}
-use Rattle.pc_certificate.specs.declared.certificate.Annotated.{Annotated}
 use Rattle.pc_certificate.specs.declared.certificate.TheConstants.{POINTS}
 use Rattle.pc_language.specs.declared.limits.TheConstants.{EDGES}
-use Rattle.pc_certificate.specs.Certificate.{Certificate, IsShowable, IsCertificate}
+use Rattle.pc_certificate.specs.Certificate.{Certificate, IsShowable, IsCertificate, AreLean}
 use Rattle.pc_cert.specs.CertificateTexts.{certificate_text}
 
 -- ---- the most bytes that lines take: 41 for a numeral, of which one is the space or the line feed behind it, 3 for an index, and
@@ -32,18 +30,6 @@ alternative_bytes points edges variables rows premises = 12 + (points * point_by
 
 abbrev pub text_bytes : ℕ → ℕ → ℕ → ℕ → ℕ → ℕ → ℕ
 text_bytes points edges variables rows premises alternatives = 256 + alternatives * alternative_bytes points edges variables rows premises
-
--- ---- certificates whose edges do not have both many proofs and many premises
-
-abbrev pub NamesPremises : ℕ → Proof → Type 0
-NamesPremises count p = AllByRecursion (λ q. q.index < count) p.parts
-
--- an edge owes no more rows than a point may have, or has no more premises: a test adds premises, and an assertion owed rows
-abbrev pub IsLean : List Proof → Type 0
-IsLean proofs = (length proofs ≤ ROWS) ⊎ AllByRecursion (NamesPremises ROWS) proofs
-
-abbrev pub AreLean : Annotated → Type 0
-AreLean a = AllByRecursion IsLean a.proofs
 
 -- the text of a certificate takes no more bytes than its alternatives may
 abbrev pub TextsAreShort : Type 0

@@ -1,11 +1,12 @@
 -- Certificates, as contracts see them.
-use Rattle.std.specs.Prelude.{ℕ, ◌≡◌, ◌<◌, ◌≤◌, ◌^◌, List, [], ◌∷◌, length, map, All}
+use Rattle.std.specs.Prelude.{ℕ, ◌≡◌, ◌<◌, ◌≤◌, ◌^◌, ◌⊎◌, List, [], ◌∷◌, length, map, All}
 use Rattle.std.specs.List.{AllByRecursion}
 use Rattle.pc_rows.specs.declared.row.TheConstants.{VARIABLES}
+use Rattle.pc_rows.specs.declared.rows.TheConstants.{ROWS}
 use Rattle.pc_rows.specs.declared.system.TheConstants.{PREMISES}
 use Rattle.pc_rows.specs.Linear.{Linear, IsOver}
 use Rattle.pc_rows.specs.Joins.{IsRows}
-use Rattle.pc_rows.specs.Evidence.{IsProof}
+use Rattle.pc_rows.specs.Evidence.{Proof, IsProof}
 use Rattle.pc_certificate.specs.declared.certificate.Annotated.{Annotated}
 use Rattle.pc_certificate.specs.declared.certificate.TheConstants.{POINTS, ALTERNATIVES}
 use Rattle.pc_language.specs.declared.limits.TheConstants.{EDGES}
@@ -54,3 +55,16 @@ pub record IsAnnotated (a : Annotated) : Type 0 where
 pub record IsCertificate (c : Certificate) : Type 0 where
   pub few : length c.alternatives < 2 ^ 32
   pub each : AllByRecursion IsAnnotated c.alternatives
+
+-- ---- certificates whose edges do not have both many proofs and many premises
+
+-- each part names one of so many premises
+abbrev pub NamesPremises : ℕ → Proof → Type 0
+NamesPremises count p = AllByRecursion (λ q. q.index < count) p.parts
+
+-- there are no more proofs than a point may have rows, or they name no more premises: a test adds premises, and an assertion proofs
+abbrev pub IsLean : List Proof → Type 0
+IsLean proofs = (length proofs ≤ ROWS) ⊎ AllByRecursion (NamesPremises ROWS) proofs
+
+abbrev pub AreLean : Annotated → Type 0
+AreLean a = AllByRecursion IsLean a.proofs

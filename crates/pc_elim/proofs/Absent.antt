@@ -10,7 +10,8 @@ use Rattle.pc_rows.specs.Linear.{is_zero}
 use Rattle.pc_rows.specs.Evidence.{Point}
 use Rattle.pc_rows.proofs.Lists.{zero_is}
 use Rattle.pc_elim.specs.declared.made.TheConstants.{LIMIT}
-use Rattle.pc_elim.specs.Elimination.{Made, Bound, is_positive, factor, combine, flat, with_each, kept_of, combined_of, eliminated, level, has_variable}
+use Rattle.pc_elim.specs.Elimination.{Made, Bound, is_positive, factor, combine, flat, with_each, kept_of, combined_of, eliminated, level}
+use Rattle.pc_elim.specs.Places.{has_variable}
 use Rattle.pc_elim.specs.Placing.{bound_of, turned, next_bound, greater, greatest, placed_by, placed}
 use Rattle.pc_elim.specs.Fits.{AllPairsFit, EliminationFits, GreatestFits, TakenFits, ByFits, PlacedFits}
 use Rattle.pc_elim.proofs.Making.{made_all}

@@ -8,10 +8,12 @@ use Rattle.std.proofs.lemmas.List.{drop_more, drop_all, get_or_default}
 use Rattle.pc_rows.specs.Bounds.{IsWithin, AreWithin}
 use Rattle.pc_elim.specs.declared.made.Fault.{Fault}
 use Rattle.pc_elim.specs.declared.small.TheConstants.{SMALL}
-use Rattle.pc_elim.specs.Elimination.{Made, combine, flat, with_each, kept_of, combined_of, eliminated, places_below, combined_at}
+use Rattle.pc_elim.specs.Elimination.{Made, combine, flat, with_each, kept_of, combined_of, eliminated}
+use Rattle.pc_elim.specs.Places.{places_below, combined_at}
 use Rattle.pc_elim.specs.Settling.{is_contradiction, contradiction_of}
 use Rattle.pc_elim.specs.Small.{is_small, is_small_row, is_small_made}
-use Rattle.pc_elim.specs.Fits.{CombineFits, PairFits, AllPairsFit, EliminationFits, CountIs, FaultIs, SettleIs, Unless}
+use Rattle.pc_elim.specs.Fits.{CombineFits, PairFits, AllPairsFit, EliminationFits}
+use Rattle.pc_elim.specs.Steps.{CountIs, FaultIs, SettleIs, Unless}
 use Rattle.pc_elim.proofs.Adding.{flat_next, all_at}
 use Rattle.pc_elim.proofs.Counting.{is_under}
 use Rattle.pc_elim.proofs.SmallRows.{MadeWithin, all_pairs_fit}

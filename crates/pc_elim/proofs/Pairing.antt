@@ -7,8 +7,10 @@ use Rattle.pc_rows.proofs.Joining.{each_join, each_left, each_right}
 use Rattle.pc_elim.specs.declared.made.Fault.{Fault}
 use Rattle.pc_elim.specs.declared.made.Fault.TheVariants.{Past, Full, NoMemory}
 use Rattle.pc_elim.specs.declared.made.TheConstants.{LIMIT}
-use Rattle.pc_elim.specs.Elimination.{Made, combine, flat, pair_of, with_each, kept_of, combined_of, eliminated, place_of, places_below, combined_at}
-use Rattle.pc_elim.specs.Fits.{CombineFits, PairFits, AllPairsFit, EliminationFits, Adds, CountIs, FaultIs}
+use Rattle.pc_elim.specs.Elimination.{Made, combine, flat, pair_of, with_each, kept_of, combined_of, eliminated}
+use Rattle.pc_elim.specs.Places.{place_of, places_below, combined_at}
+use Rattle.pc_elim.specs.Fits.{CombineFits, PairFits, AllPairsFit, EliminationFits}
+use Rattle.pc_elim.specs.Steps.{Adds, CountIs, FaultIs}
 use Rattle.pc_elim.proofs.Adding.{all_at}
 use Rattle.pc_elim.proofs.Counting.{one_if, is_free, is_over, is_under, count_more, length-eliminated, eliminated_room}
 

@@ -5,10 +5,12 @@ use Rattle.pc_elim.specs.declared.settle.Found.TheVariants.{At}
 use Rattle.pc_elim.specs.declared.made.TheConstants.{LIMIT}
 use Rattle.pc_elim.specs.declared.made.Fault.{Fault}
 use Rattle.pc_elim.specs.declared.made.Fault.TheVariants.{Past, Full, NoMemory}
-use Rattle.pc_elim.specs.Elimination.{Made, eliminated, level, has_variable}
+use Rattle.pc_elim.specs.Elimination.{Made, eliminated, level}
+use Rattle.pc_elim.specs.Places.{has_variable}
 use Rattle.pc_elim.specs.Settling.{origin, contradiction_of, taken_back, settled_by, settle}
 use Rattle.pc_elim.specs.Placing.{placed}
-use Rattle.pc_elim.specs.Fits.{EliminationFits, LevelFits, PlacedFits, BackFits, PointFits, SettleFits, FaultIs, SettleIs}
+use Rattle.pc_elim.specs.Fits.{EliminationFits, LevelFits, PlacedFits, BackFits}
+use Rattle.pc_elim.specs.Steps.{PointFits, SettleFits, FaultIs, SettleIs}
 use Rattle.pc_elim.proofs.Absent.{all_free, free_made, free_placed, free_level, free_fits}
 
 -- a fault of one is a fault of the other

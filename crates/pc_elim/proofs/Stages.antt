@@ -5,7 +5,8 @@ use Rattle.std.proofs.lemmas.Int.{ints}
 use Rattle.pc_rows.specs.Bounds.{AreWithin}
 use Rattle.pc_rows.specs.Evidence.{Point}
 use Rattle.pc_elim.specs.declared.made.TheConstants.{LIMIT}
-use Rattle.pc_elim.specs.Elimination.{Made, level, has_variable}
+use Rattle.pc_elim.specs.Elimination.{Made, level}
+use Rattle.pc_elim.specs.Places.{has_variable}
 use Rattle.pc_elim.specs.Placing.{placed}
 use Rattle.pc_elim.specs.Settling.{origin, contradiction_of}
 use Rattle.pc_elim.specs.Fits.{LevelFits, PlacedFits, BackFits}

@@ -17,7 +17,8 @@ use Rattle.pc_rows.specs.Points.{AllMeetAt}
 use Rattle.pc_rows.specs.Modest.{occurs, occurring}
 use Rattle.pc_rows.proofs.Bounding.{more_within}
 use Rattle.pc_rows.proofs.Algebra.{same_row, scaled_one, length-scale_list}
-use Rattle.pc_elim.specs.Elimination.{Made, has_variable, combination, unit, started_from, started}
+use Rattle.pc_elim.specs.Elimination.{Made, combination, unit, started_from, started}
+use Rattle.pc_elim.specs.Places.{has_variable}
 use Rattle.pc_elim.proofs.Soundness.{Good, IsFull}
 use Rattle.pc_elim.proofs.Counting.{one_if}
 use Rattle.pc_elim.proofs.SmallRows.{MadeWithin, row_more}

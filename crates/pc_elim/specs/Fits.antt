@@ -1,15 +1,12 @@
 -- What has to be in range, and how many rows there may be, for a system to be settled.
-use Rattle.std.specs.Prelude.{◌≡◌, ◌++◌, ◌<◌, ◌≤◌, ℕ, suc, zero, ℤ, ◌+ℤ◌, ◌*ℤ◌, neg_ℤ, Bool, true, false, List, [], ◌∷◌, Option, Some, None, Result, Ok, Err, length}
+use Rattle.std.specs.Prelude.{◌≡◌, ◌≤◌, ℕ, suc, zero, ℤ, ◌*ℤ◌, neg_ℤ, Bool, true, false, List, [], ◌∷◌, Option, Some, None, length}
 use Rattle.std.specs.List.{AllByRecursion}
 use Rattle.pc_rows.specs.Linear.{Linear, InRange, AllInRange, IsInRange, scale_list, sum_of, scaled_by}
 use Rattle.pc_rows.specs.Evidence.{Point}
 use Rattle.pc_rows.specs.Points.{NumeratorFits, over_multiple}
-use Rattle.pc_elim.specs.declared.made.Fault.{Fault}
-use Rattle.pc_elim.specs.declared.made.Fault.TheVariants.{Past, Full, NoMemory}
 use Rattle.pc_elim.specs.declared.made.TheConstants.{LIMIT}
 use Rattle.pc_elim.specs.Elimination.{Made, Bound, is_positive, factor, weigh, eliminated, level}
 use Rattle.pc_elim.specs.Placing.{bound_of, turned, next_bound, greatest, placed}
-use Rattle.pc_elim.specs.Settling.{origin, contradiction_of}
 
 -- b times the first row plus a times the second: each product and each sum
 pub record RowFits (b : ℤ) (p : Linear) (a : ℤ) (n : Linear) : Type 0 where
@@ -23,12 +20,6 @@ pub record WeighFits (b : ℤ) (p : List ℤ) (a : ℤ) (n : List ℤ) : Type 0 
   pub right : AllInRange (scale_list a n)
   pub sum : AllInRange (weigh b p a n)
 
--- the constant alone
-pub record ConstantFits (b c a d : ℤ) : Type 0 where
-  pub left : InRange (b *ℤ c)
-  pub right : InRange (a *ℤ d)
-  pub sum : InRange (b *ℤ c +ℤ a *ℤ d)
-
 -- all that is computed for a combination
 pub record CombineFits (k : ℕ) (p n : Made) : Type 0 where
   pub row : RowFits (neg_ℤ (factor n k)) p.row (factor p k) n.row
@@ -41,27 +32,6 @@ PairFits k p n = is_positive (neg_ℤ (factor n k)) ≡ true → CombineFits k p
 -- the combinations of a row with each other one, where it is combined at all
 abbrev pub AllPairsFit : ℕ → List Made → Made → Type 0
 AllPairsFit k all r = is_positive (factor r k) ≡ true → AllByRecursion (PairFits k r) all
-
--- the items are added, and what is computed for them fits; Past exactly where it does not
-abbrev pub Adds : List Made → Type 0 → List Made → Result (Unit {0}) Fault → List Made → Type 0
-Adds items Fits old (Ok u) new = Fits × (new ≡ old ++ items)
-Adds items Fits old (Err Past) new = Fits → ⊥
-Adds items Fits old (Err Full) new = ⊥
-Adds items Fits old (Err NoMemory) new = Unit {0}
-
--- the places are added, unless there is no memory
-abbrev pub PlacesAdded : List ℕ → List ℕ → Result (Unit {0}) Fault → List ℕ → Type 0
-PlacesAdded places old (Ok u) new = new ≡ old ++ places
-PlacesAdded places old (Err Past) new = ⊥
-PlacesAdded places old (Err Full) new = ⊥
-PlacesAdded places old (Err NoMemory) new = Unit {0}
-
--- how many rows an elimination makes; Full comes exactly where these are too many
-abbrev pub CountIs : ℕ → List Made → Result ℕ Fault → Type 0
-CountIs k rs (Ok count) = (count ≡ length (eliminated k rs)) × (count ≤ LIMIT)
-CountIs k rs (Err Full) = LIMIT < length (eliminated k rs)
-CountIs k rs (Err Past) = ⊥
-CountIs k rs (Err NoMemory) = ⊥
 
 -- all that is computed to eliminate variable k is in range, and there is room for the rows
 abbrev pub EliminationFits : ℕ → List Made → Type 0
@@ -114,29 +84,3 @@ PlacedFits k rs p = GreatestFits false k p None rs × ByFits k rs p (greatest fa
 abbrev pub BackFits : ℕ → List Made → Point → Type 0
 BackFits zero start p = Unit {0}
 BackFits (suc k) start p = PlacedFits k (level k start) p × BackFits k start (placed k (level k start) p)
-
--- a point is looked for only where there is no contradiction
-abbrev pub PointFits : ℕ → List Made → Option (List ℤ) → Type 0
-PointFits width start (Some multipliers) = Unit {0}
-PointFits width start None = BackFits width start (origin width)
-
--- all that is computed to settle the rows is in range, and there is room for the rows
-pub record SettleFits (width : ℕ) (start : List Made) : Type 0 where
-  pub levels : LevelFits width start
-  pub point : PointFits width start (contradiction_of (level width start))
-
--- a fault comes only where something does not fit, and want of memory is free
-abbrev pub FaultIs : Type 0 → Fault → Type 0
-FaultIs Fits Past = Fits → ⊥
-FaultIs Fits Full = Fits → ⊥
-FaultIs Fits NoMemory = Unit {0}
-
--- the answer, and all that is computed for it fits
-abbrev pub SettleIs : {A : Type 0} → A → Type 0 → Result A Fault → Type 0
-SettleIs v Fits (Ok f) = Fits × (f ≡ v)
-SettleIs v Fits (Err e) = FaultIs Fits e
-
--- the same where not all of it is computed, so that the answer may come though something does not fit
-abbrev pub Unless : {A : Type 0} → A → Type 0 → Result A Fault → Type 0
-Unless v Fits (Ok f) = f ≡ v
-Unless v Fits (Err e) = FaultIs Fits e

@@ -7,9 +7,11 @@
 ghost use Rattle.std.specs.Prelude.{◌≡◌, ◌<◌, ◌≤◌, Some, ◌+ℤ◌, ◌*ℤ◌, OkIff, [], ◌∷◌, length};
 ghost use Rattle.std.specs.List.{AllByRecursion};
 ghost use Rattle.pc_elim.specs.declared.made.TheConstants.{LIMIT};
-ghost use Rattle.pc_elim.specs.Elimination.{combine, factor, flat, with_each, kept_of, combined_of, eliminated, places_below};
+ghost use Rattle.pc_elim.specs.Elimination.{combine, factor, flat, with_each, kept_of, combined_of, eliminated};
+ghost use Rattle.pc_elim.specs.Places.{places_below};
 ghost use Rattle.pc_elim.specs.Settling.{contradiction_of};
-ghost use Rattle.pc_elim.specs.Fits.{ConstantFits, CombineFits, PairFits, AllPairsFit, EliminationFits, SettleIs, Unless};
+ghost use Rattle.pc_elim.specs.Fits.{CombineFits, PairFits, AllPairsFit, EliminationFits};
+ghost use Rattle.pc_elim.specs.Steps.{ConstantFits, SettleIs, Unless};
 
 use crate::made::{Fault, LIMIT, Made, PARTS, is_positive};
 use crate::pairs::{combined, eliminated};

@@ -6,10 +6,12 @@
 
 ghost use Rattle.std.specs.Prelude.{◌≡◌, ◌<◌, ◌≤◌, IfOk, length};
 ghost use Rattle.pc_elim.specs.declared.made.TheConstants.{LIMIT};
-ghost use Rattle.pc_elim.specs.Elimination.{eliminated, level, has_variable};
+ghost use Rattle.pc_elim.specs.Elimination.{eliminated, level};
+ghost use Rattle.pc_elim.specs.Places.{has_variable};
 ghost use Rattle.pc_elim.specs.Placing.{placed};
 ghost use Rattle.pc_elim.specs.Settling.{contradiction_of, taken_back, settle};
-ghost use Rattle.pc_elim.specs.Fits.{EliminationFits, LevelFits, PlacedFits, BackFits, SettleFits, SettleIs};
+ghost use Rattle.pc_elim.specs.Fits.{EliminationFits, LevelFits, PlacedFits, BackFits};
+ghost use Rattle.pc_elim.specs.Steps.{SettleFits, SettleIs};
 
 use crate::bound::placed;
 use crate::contradiction::{contradiction, last_contradiction};

@@ -1,5 +1,5 @@
 -- Carrying a row back over an edge is exact.
-use Rattle.std.proofs.Common.{◌≡◌, pos, ◌≤ℤ◌, ◌+ℤ◌, List, [], ◌∷◌, length, refl, sym, ap, subst, ◌∙◌, length-set}
+use Rattle.std.proofs.Common.{◌≡◌, Some, pos, ◌≤ℤ◌, ◌+ℤ◌, List, [], ◌∷◌, length, refl, sym, ap, subst, ◌∙◌, length-set}
 use Rattle.std.specs.Prelude.{slice_set}
 use Rattle.pc_rows.specs.Linear.{Linear, value, Meets, MeetsAll, zero_from}
 use Rattle.pc_rows.proofs.Carrying.{substitution_is_exact}
@@ -29,7 +29,7 @@ carrying_is_exact (Test rows) s r fit has = record { enough = λ m t h. subst (�
 carrying_is_exact (Check rows) s r fit has = record { enough = λ m t h. subst (λ t. Meets t r) (sym h.1) m; needed = λ a f. f s (a, refl) }
 carrying_is_exact (Set x f lo hi) s r fit has =
     let ordered = fit.1.ordered in
-    let law = substitution_is_exact r f x (end_of lo) (end_of hi) s has ordered in
+    let law = substitution_is_exact r f x (Some (end_of lo)) (Some (end_of hi)) s has ordered in
     record {
       enough = λ m t h. subst (λ t. Meets t r) (sym h.3) (law.0 m h.0 h.1 h.2);
       needed = λ a g. law.1 (λ c low high. g (slice_set s x (value f s +ℤ c)) (c, low, high, refl));

@@ -1,5 +1,5 @@
 -- Without tests and loops a state that breaks what is owed has a walk to an assertion that does not hold.
-use Rattle.std.proofs.Common.{◌≡◌, ℕ, ◌+◌, ◌<◌, ◌≤◌, suc, zero, ℤ, pos, ◌≤ℤ◌, ◌+ℤ◌, ◌*ℤ◌, List, [], ◌∷◌, length, Bool, true, false, cond, refl, sym, ap, subst, ◌∙◌, arith, inl, inr}
+use Rattle.std.proofs.Common.{◌≡◌, Some, ℕ, ◌+◌, ◌<◌, ◌≤◌, suc, zero, ℤ, pos, ◌≤ℤ◌, ◌+ℤ◌, ◌*ℤ◌, List, [], ◌∷◌, length, Bool, true, false, cond, refl, sym, ap, subst, ◌∙◌, arith, inl, inr}
 use Rattle.std.specs.Prelude.{◌⊎◌, slice_set, int_lt}
 use Rattle.std.proofs.lemmas.Int.{ints}
 use Rattle.pc_rows.specs.Linear.{Linear, value, Meets, MeetsAll, coefficient, is_zero, add_lists, scale_list, zero_from}
@@ -45,14 +45,14 @@ lesser_at a lo hi le = by (int_lt (a *ℤ hi) (a *ℤ lo))
 
 -- where a row carried back is broken, the successor at that end breaks the row
 set_breaks : (r f : Linear) (x : ℕ) (lo hi : ℤ) (s : State) → x < length s → lo ≤ℤ hi →
-    (Meets s (substituted r x f lo hi) → ⊥) → (c : ℤ) × (lo ≤ℤ c) × (c ≤ℤ hi) × (Meets (slice_set s x (value f s +ℤ c)) r → ⊥)
+    (Meets s (substituted r x f (Some lo) (Some hi)) → ⊥) → (c : ℤ) × (lo ≤ℤ c) × (c ≤ℤ hi) × (Meets (slice_set s x (value f s +ℤ c)) r → ⊥)
 set_breaks r f x lo hi s h le bad =
     let c = lesser_at (coefficient r x) lo hi le in
     let same = ap (λ (z : ℤ). cond (is_zero (coefficient r x)) r (record {
       constant = r.constant +ℤ coefficient r x *ℤ f.constant +ℤ z;
       coefficients = add_lists (scale_list (coefficient r x) f.coefficients) (slice_set r.coefficients x (pos 0));
     })) c.3 in
-    let law = substitution_is_exact r f x c.0 c.0 s h (omega (arith, ints)) in (
+    let law = substitution_is_exact r f x (Some c.0) (Some c.0) s h (omega (arith, ints)) in (
       c.0,
       c.1,
       c.2,

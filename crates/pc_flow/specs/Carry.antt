@@ -1,5 +1,5 @@
 -- Rows that are carried back over an edge, and what an edge owes.
-use Rattle.std.specs.Prelude.{◌<◌, List, [], ◌∷◌, ◌++◌, length}
+use Rattle.std.specs.Prelude.{◌<◌, Some, List, [], ◌∷◌, ◌++◌, length}
 use Rattle.pc_rows.specs.Linear.{Linear, Meets, MeetsAll, first_of}
 use Rattle.pc_rows.specs.Substitution.{substituted, SubstituteFits}
 use Rattle.pc_language.specs.Ends.{end_of}
@@ -11,12 +11,12 @@ use Rattle.pc_flow.specs.Walk.{Pass, Keeps}
 abbrev pub back : What → Linear → Linear
 back (Enter params) r = first_of params r
 back (Test rows) r = r
-back (Set x form lo hi) r = substituted r x form (end_of lo) (end_of hi)
+back (Set x form lo hi) r = substituted r x form (Some (end_of lo)) (Some (end_of hi))
 back (Check rows) r = r
 
 -- each number that is computed for it is in range; only an assignment computes any
 abbrev pub BackFits : What → Linear → Type 0
-BackFits (Set x form lo hi) r = SubstituteFits r x form (end_of lo) (end_of hi)
+BackFits (Set x form lo hi) r = SubstituteFits r x form (Some (end_of lo)) (Some (end_of hi))
 BackFits (Enter params) r = Unit {0}
 BackFits (Test rows) r = Unit {0}
 BackFits (Check rows) r = Unit {0}

@@ -33,7 +33,7 @@ impl Model for Graph {
 }
 
 impl Graph {
-    pub(crate) fn new(
+    pub fn new(
         params: u32,
         variables: u32,
         points: Items<PointInfo>,

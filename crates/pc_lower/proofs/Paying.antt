@@ -1,5 +1,5 @@
 -- Without loops the need pays every edge, and each of its rows is owed.
-use Rattle.std.proofs.Common.{◌≡◌, ℕ, suc, zero, List, [], ◌∷◌, ◌++◌, sym, refl, subst, cond, Bool, true, false, arith, inl, inr, ℤ, pos, ◌≤ℤ◌}
+use Rattle.std.proofs.Common.{◌≡◌, Some, ℕ, suc, zero, List, [], ◌∷◌, ◌++◌, sym, refl, subst, cond, Bool, true, false, arith, inl, inr, ℤ, pos, ◌≤ℤ◌}
 use Rattle.std.specs.Prelude.{◌⊎◌, not, filter}
 use Rattle.std.specs.List.{AllByRecursion as Each}
 use Rattle.std.proofs.lemmas.Int.{ints}
@@ -50,7 +50,7 @@ passes (Set x form lo hi) s t (r ∷ rows) has pass m =
     let low = pass.1 in
     let high = pass.2 in
     let ordered : end_of lo ≤ℤ end_of hi = omega (arith, ints) in (
-      subst (λ (z : State). Meets z r) (sym pass.3) ((substitution_is_exact r form x (end_of lo) (end_of hi) s has ordered).0 m.0 pass.0 low high),
+      subst (λ (z : State). Meets z r) (sym pass.3) ((substitution_is_exact r form x (Some (end_of lo)) (Some (end_of hi)) s has ordered).0 m.0 pass.0 low high),
       passes (Set x form lo hi) s t rows has pass m.1,
     )
 

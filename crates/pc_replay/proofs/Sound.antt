@@ -1,5 +1,5 @@
 -- Whatever the rule accepts is safe.
-use Rattle.std.proofs.Common.{◌≡◌, ℕ, ◌+◌, ◌-◌, ◌≤◌, pos, ◌≤ℤ◌, List, [], ◌∷◌, ◌++◌, map, length, get_or, refl, sym, ap, subst, ◌∙◌, arith, length-append, inl, inr}
+use Rattle.std.proofs.Common.{◌≡◌, Some, ℕ, ◌+◌, ◌-◌, ◌≤◌, pos, ◌≤ℤ◌, List, [], ◌∷◌, ◌++◌, map, length, get_or, refl, sym, ap, subst, ◌∙◌, arith, length-append, inl, inr}
 use Rattle.std.specs.Prelude.{replicate}
 use Rattle.std.specs.List.{AllByRecursion, zip}
 use Rattle.std.proofs.lemmas.Int.{ints}
@@ -41,7 +41,7 @@ back_meets (Set x f lo hi) s t r has pass m =
     let low = pass.1 in
     let high = pass.2 in
     let ordered : end_of lo ≤ℤ end_of hi = omega (arith, ints) in
-    subst (λ t. Meets t r) (sym pass.3) ((substitution_is_exact r f x (end_of lo) (end_of hi) s has ordered).0 m pass.0 low high)
+    subst (λ t. Meets t r) (sym pass.3) ((substitution_is_exact r f x (Some (end_of lo)) (Some (end_of hi)) s has ordered).0 m pass.0 low high)
 
 all_back_meet : (w : What) (s t : State) (rows : List Linear) → HasVariable w s → Pass w s t → MeetsAll s (map (back w) rows) → MeetsAll t rows
 all_back_meet w s t [] has pass m = tt

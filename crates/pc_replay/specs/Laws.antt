@@ -1,5 +1,6 @@
 -- What the rule of the replayer promises.
 use Rattle.std.specs.Prelude.{◌≡◌, ◌↔◌, List, map, None}
+use Rattle.std.specs.List.{AllByRecursion}
 use Rattle.pc_rows.specs.Linear.{Linear, MeetsSome}
 use Rattle.pc_rows.specs.Evidence.{Proof}
 use Rattle.pc_rows.specs.Linear.{State}
@@ -10,7 +11,7 @@ use Rattle.pc_flow.specs.Shape.{IsGraph}
 use Rattle.pc_flow.specs.Walk.{IsEntry, GraphSafe}
 use Rattle.pc_replay.specs.declared.ruling.Ruling.TheVariants.{Accepted}
 use Rattle.pc_replay.specs.Accepts.{Accepts, RowProved}
-use Rattle.pc_certificate.specs.Certificate.{Certificate, condition_of}
+use Rattle.pc_certificate.specs.Certificate.{Certificate, condition_of, IsCertificate, AreLean}
 use Rattle.pc_replay.specs.Flaws.{asked, row_flaw}
 use Rattle.pc_replay.specs.Rule.{ruling}
 
@@ -33,3 +34,7 @@ IsSafe g c = (s : State) → IsEntry g s → MeetsSome s (condition_of c) → Gr
 -- whatever is right for a graph is safe, whoever made it
 abbrev pub AcceptedIsSafe : Type 0
 AcceptedIsSafe = (g : Flow) (c : Certificate) → IsGraph g → Accepts g c → IsSafe g c
+
+-- whatever is right for a graph has few proofs or few premises at each edge
+abbrev pub AcceptedIsLean : Type 0
+AcceptedIsLean = (g : Flow) (c : Certificate) → IsCertificate c → Accepts g c → AllByRecursion AreLean c.alternatives

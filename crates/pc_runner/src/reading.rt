@@ -2,7 +2,7 @@
 
 ghost use Rattle.std.specs.Prelude.{◌≡◌, ◌≤◌, ◌<◌, ◌-◌, ◌^◌, ◌++◌, [], length, replicate, codes, true, false, OnOk, IfOk, MatchOption, option_map};
 ghost use Rattle.std.specs.List.{list_all};
-ghost use Rattle.pc_text.specs.Lines.{lines};
+ghost use Rattle.pc_text.specs.Lines as text;
 ghost use Rattle.pc_text.specs.Numerals.{integer_of, is_in_range};
 ghost use Rattle.pc_text.specs.Words.{behind, is_numeral, words};
 ghost use Rattle.pc_runner.specs.Answers.{Gives, Reads};
@@ -42,7 +42,7 @@ fn number_of(numeral: &[u8]) -> Option<i128>
 
 /// The numbers of the numerals that are left in the first line, in order.
 fn values(alloc: Global, words: &mut Words) -> Result<Items<i128>, ScriptFault>
-    requires { list_all is_numeral words ≡ true }
+    requires { list_all is_numeral words.old ≡ true }
     ensures gives { Gives result (spec.values_in 1 words.old) }
     ensures few { IfOk result (λ values. length values ≤ length words.old) }
     ensures in_range { IfOk result (λ values. list_all is_in_range values ≡ true) }
@@ -137,7 +137,7 @@ fn add(choices: &mut Items<i128>, choice: i128, times: usize) -> Result<(), Allo
 
 /// The choices of the lines that are left.
 fn read_choices(alloc: Global, lines: &mut Lines) -> Result<Items<i128>, ScriptFault>
-    ensures gives { Gives result (spec.choices_of lines.old.number [] (lines lines.old.rest)) }
+    ensures gives { Gives result (spec.choices_of lines.old.number [] (text.lines lines.old.rest)) }
     ensures in_range { IfOk result (λ choices. list_all is_in_range choices ≡ true) }
     ensures few { IfOk result (λ choices. length choices ≤ CHOICES) }
 {

@@ -168,32 +168,3 @@ word_past w is h =
       longest = λ v s q g. front_within w v s (sym q);
     } in
     rw is (past_by (integer_of w) (is_in_range (integer_of w)) refl (h w whole))
-
--- ---- what a word says of a numeral
-
-number_by : (z y : ℤ) (t : Bool) → is_in_range y ≡ t → word.Number z ≡ cond t (word.Number y) word.Past → (z ≡ y) × (is_in_range z ≡ true)
-number_by z y true e h = let same : z ≡ y = cc in (same, ap is_in_range same ∙ e)
-number_by z y false e h = absurd (cc)
-
-numeral_says : (w : Bytes) → is_numeral w ≡ true → word_of w ≡ cond (is_in_range (integer_of w)) (word.Number (integer_of w)) word.Past
-numeral_says w is = rw is refl
-
--- its number, which is in range
-pub number_said : (w : Bytes) (z : ℤ) → is_numeral w ≡ true → word.Number z ≡ word_of w → (z ≡ integer_of w) × (is_in_range z ≡ true)
-number_said w z is h = number_by z (integer_of w) (is_in_range (integer_of w)) refl (h ∙ numeral_says w is)
-
-not_past_by : (y : ℤ) (t : Bool) → word.Past ≡ cond t (word.Number y) word.Past → t ≡ false
-not_past_by y true h = absurd (cc)
-not_past_by y false h = refl
-
--- or that its number is not in range
-pub past_said : (w : Bytes) → is_numeral w ≡ true → word.Past ≡ word_of w → is_in_range (integer_of w) ≡ false
-past_said w is h = not_past_by (integer_of w) (is_in_range (integer_of w)) (h ∙ numeral_says w is)
-
-some_by : (y : ℤ) (t : Bool) → word.Other ≡ cond t (word.Number y) word.Past → ⊥
-some_by y true h = absurd (cc)
-some_by y false h = absurd (cc)
-
--- and one of the two
-pub some_said : (w : Bytes) → is_numeral w ≡ true → word.Other ≡ word_of w → ⊥
-some_said w is h = some_by (integer_of w) (is_in_range (integer_of w)) (h ∙ numeral_says w is)

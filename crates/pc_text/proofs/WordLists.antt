@@ -1,6 +1,6 @@
 -- The words of a line, one after another, and the line that they make.
 use Rattle.std.proofs.Common.{◌≡◌, ◌∙◌, refl, ap, sym, ℕ, ◌+◌, ◌<◌, ◌≤◌, Bool, true, false, not, cond, [], ◌∷◌, ◌++◌, Option, Some, None, Bor, length, take, drop, arith}
-use Rattle.std.specs.Prelude.{codes}
+use Rattle.std.specs.Prelude.{bytes_eq, codes}
 use Rattle.std.specs.List.{position, position_or_len, count_by, join_by, join_with_byte}
 use Rattle.std.specs.Option.{is_some}
 use Rattle.std.proofs.lemmas.Bool.{ltb-false}
@@ -9,7 +9,7 @@ use Rattle.std.proofs.lemmas.List.Quantifiers.{position-Some}
 use Rattle.std.proofs.lemmas.List.Splits.{slice_split_first, slice_split_none, length-slice_split, join_with_byte-slice_split}
 use Rattle.std.proofs.lemmas.List.Sums.{count_by-le-length, position_or_len_is, fails_before_first}
 use Rattle.pc_text.specs.Bytes.{Bytes}
-use Rattle.pc_text.specs.Words.{Words, is_space, words, words_left, is_empty}
+use Rattle.pc_text.specs.Words.{Words, is_space, words, words_left, is_empty, behind}
 
 -- up to the first space, and behind it
 pub words_first : (b : Bytes) (n : ℕ) → position is_space b ≡ Some n → words b ≡ take n b ∷ words (drop (n + 1) b)
@@ -64,3 +64,15 @@ line_of_words line = sym (joins (words line)) ∙ join_with_byte-slice_split 32 
 -- no more than it has bytes, and one
 pub words_few : (b : Bytes) → length (words b) ≤ length b + 1
 words_few b = let long = length-slice_split is_space b in let few = count_by-le-length is_space b in omega arith
+
+behind_by : (t : Bool) (all ws : Words) → cond t (Some all) None ≡ Some ws → all ≡ ws
+behind_by true all ws e = cc
+behind_by false all ws e = absurd (cc)
+
+behind_one : (name : Bytes) (all ws : Words) (n : ℕ) → length all ≤ n + 1 → behind name all ≡ Some ws → length ws ≤ n
+behind_one name [] ws n few e = absurd (cc)
+behind_one name (w ∷ all) ws n few e = let same = ap (λ (vs : Words). length vs) (behind_by (bytes_eq w name) all ws e) in omega arith
+
+-- so no more than bytes are behind the name
+pub behind_few : (name line : Bytes) (ws : Words) → behind name (words line) ≡ Some ws → length ws ≤ length line
+behind_few name line ws e = behind_one name (words line) ws (length line) (words_few line) e

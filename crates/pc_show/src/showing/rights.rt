@@ -7,8 +7,8 @@ ghost use Rattle.pc_program.specs.Sane.{names_below};
 
 use crate::showing::exprs::push_expr;
 use crate::showing::level::Level;
+use pc_language::{Bound, Choice, end_of};
 use pc_program::Right;
-use pc_language::{Bound, Choice};
 use pc_text::{Names, NoMemory, Text};
 
 /// Appends an end of an interval, which is a `*` where it is open.

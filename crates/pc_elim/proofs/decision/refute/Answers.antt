@@ -1,5 +1,5 @@
 use Rattle.std.proofs.Common.{◌∙◌}
-use Rattle.pc_elim.proofs.Deciding.{started_few, shown_answers, point_answers, past_unfit, full_unfit}
+use Rattle.pc_elim.proofs.Answering.{started_few, shown_answers, point_answers, past_unfit, full_unfit}
 use Rattle.pc_elim.proofs.decision.refute.Goals as goal
 
 pub returns-in-Ok-Shown-clause-exact : goal.returns-in-Ok-Shown-clause-exact

@@ -1,5 +1,5 @@
 use Rattle.std.proofs.Common.{◌≡◌, ◌++◌, drop}
-use Rattle.pc_elim.specs.Elimination.{combined_at}
+use Rattle.pc_elim.specs.Places.{combined_at}
 use Rattle.pc_elim.proofs.Pairing.{AllFitAt}
 use Rattle.pc_elim.proofs.pairs.pairs.Given as goal
 

@@ -1,5 +1,5 @@
 use Rattle.std.proofs.Common.{sym, ◌∙◌, ap}
-use Rattle.pc_elim.specs.Elimination.{has_variable}
+use Rattle.pc_elim.specs.Places.{has_variable}
 use Rattle.pc_elim.proofs.Settlement.{free_next}
 use Rattle.pc_elim.proofs.settle.next.Goals as goal
 
