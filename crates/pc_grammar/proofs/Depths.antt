@@ -8,7 +8,7 @@ use Rattle.pc_grammar.specs.declared.tree.StmtTree.{StmtTree}
 use Rattle.pc_grammar.specs.Combinators.{Text, Parser, Class, Out, Got, Stops, Syntax, Deep, starts, token_if, token, and_then, map_out, both, map_parser, either, maybe, many_from, many, Part, More, Last, goes_on, series_from, series, shut, shut_if}
 use Rattle.pc_grammar.specs.Terminals.{among, the, one}
 use Rattle.pc_grammar.specs.Expressions.{signs, inner, number, name, signed, all_products, all_sums, atom, factor, addend, expr_in, paren_in, paren}
-use Rattle.pc_grammar.specs.Rights.{bound_of, choice_of, alone, more, more_or_last, joined, bound, choice, part, right}
+use Rattle.pc_grammar.specs.Rights.{bound_of, open_bound, choice_of, alone, more, more_or_last, joined, bound, choice, part, right}
 use Rattle.pc_grammar.specs.Statements.{operators, begins_stmt, all_items, separated, optional, after, enclosed, compare_of, any, holds, set_of, if_of, while_of, assert_of, assume_of, compare, all, test, set_stmt, assert_stmt, assume_stmt, if_stmt, while_stmt, stmts_in, block_in, block}
 use Rattle.pc_grammar.specs.Programs.{given, var_names, flat, program_of, names, locals, program}
 
@@ -145,7 +145,8 @@ module _ (n : ℕ) (p : Parser ExprTree) (h : Bounded n p) where
   paren_in_bounded = map_bounded inner (n + 1) _ (then_bounded (the terminal.OpenParen) n _ (both_bounded n _ _ expr_bounded (one_bounded terminal.CloseParen n)))
 
   bound_bounded : Bounded n bound
-  bound_bounded = map_bounded bound_of n _ (both_bounded n _ _ (maybe_bounded (the terminal.Minus) n _ (one_bounded terminal.Minus n)) (one_bounded terminal.Number n))
+  bound_bounded = either_bounded (the terminal.Star) n _ _ (map_bounded open_bound n _ (one_bounded terminal.Star n))
+      (map_bounded bound_of n _ (both_bounded n _ _ (maybe_bounded (the terminal.Minus) n _ (one_bounded terminal.Minus n)) (one_bounded terminal.Number n)))
 
   choice_bounded : Bounded n choice
   choice_bounded = map_bounded choice_of n _ (both_bounded n _ _ (one_bounded terminal.OpenBracket n) (both_bounded n _ _ bound_bounded (both_bounded n _ _ (one_bounded terminal.Comma n)

@@ -10,7 +10,7 @@ use Rattle.pc_text.specs.Lex.{lex}
 use Rattle.pc_grammar.specs.declared.symbol.Symbol.{Symbol}
 use Rattle.pc_language.specs.declared.terminal.Terminal.TheVariants as terminal
 use Rattle.pc_grammar.specs.declared.tree.ExprTree.TheVariants as expr_is
-use Rattle.pc_language.specs.declared.choice.Bound.TheVariants.{At}
+use Rattle.pc_language.specs.declared.choice.Bound.TheVariants.{At, Open}
 use Rattle.pc_language.specs.declared.operator.Op.TheVariants as op_is
 use Rattle.pc_grammar.specs.declared.tree.TestTree.TheVariants as test_is
 use Rattle.pc_grammar.specs.declared.tree.StmtTree.{StmtTree}
@@ -82,6 +82,32 @@ choices : meaning (codes "entry (x) { x = [-1, 7]; x = x - 1 + [0, 0]; }")
 unfolding lex class is_keyword place_of keyword_of byte_sign pair_sign
 choices = refl
 
+-- an end of an interval may be open
+open_end : meaning (codes "entry (x) { x = x + [0, *]; assert (x <= 5); }")
+    ≡ with_body
+    (stmt_is.Set (letter 13) (record {
+      expr = expr_is.Name (letter 17);
+      choice = Some (record { lo = At (pos 0); hi = Open; place = column 21 });
+    })
+    ∷ stmt_is.Assert (column 29) (record { op = op_is.AtMost; left = expr_is.Name (letter 37); right = expr_is.Num (pos 5); place = column 39 } ∷ [])
+    ∷ [])
+unfolding lex class is_keyword place_of keyword_of byte_sign pair_sign
+open_end = refl
+
+open_ends : meaning (codes "entry (x) { x = [*, -3]; x = [*,*]; }")
+    ≡ with_body
+    (stmt_is.Set (letter 13) (record {
+      expr = expr_is.Num (pos 0);
+      choice = Some (record { lo = Open; hi = At (negsuc 2); place = column 17 });
+    })
+    ∷ stmt_is.Set (letter 26) (record {
+      expr = expr_is.Num (pos 0);
+      choice = Some (record { lo = Open; hi = Open; place = column 30 });
+    })
+    ∷ [])
+unfolding lex class is_keyword place_of keyword_of byte_sign pair_sign
+open_ends = refl
+
 -- without `else` the second block is empty, and without `try` no comparisons are tried
 loops : meaning (codes "entry (x) { if (*) { } while (x != 0) try (x <= 9 && x >= 1) { } }")
     ≡ with_body
@@ -123,6 +149,11 @@ cut_short = refl
 inner_choice : meaning (codes "entry (x) { x = (x + [0, 1]); }") ≡ syntax_at 1 22
 unfolding lex class is_keyword place_of keyword_of byte_sign pair_sign
 inner_choice = refl
+
+-- an open end has no sign
+negated_end : meaning (codes "entry (x) { x = [0, -*]; }") ≡ syntax_at 1 22
+unfolding lex class is_keyword place_of keyword_of byte_sign pair_sign
+negated_end = refl
 
 else_if : meaning (codes "entry (x) { if (*) {} else if (*) {} }") ≡ syntax_at 1 28
 unfolding lex class is_keyword place_of keyword_of byte_sign pair_sign

@@ -1,26 +1,41 @@
 -- The laws of choices and right sides.
-use Rattle.std.proofs.Common.{refl}
+use Rattle.std.proofs.Common.{List, [], ◌∷◌, refl}
 use Rattle.pc_grammar.specs.declared.symbol.Symbol.{Symbol}
+use Rattle.pc_language.specs.declared.terminal.Terminal.{Terminal}
 use Rattle.pc_language.specs.declared.terminal.Terminal.TheVariants as terminal
 use Rattle.pc_grammar.specs.declared.tree.ExprTree.{ExprTree}
+use Rattle.pc_language.specs.declared.choice.Bound.{Bound}
 use Rattle.pc_language.specs.declared.choice.Choice.{Choice}
 use Rattle.pc_grammar.specs.declared.tree.RightTree.{RightTree}
 use Rattle.pc_grammar.specs.Combinators.{Text, Parser, Lang, none, both, map_parser, Part, More, Last, series}
 use Rattle.pc_grammar.specs.Terminals.{among, the}
 use Rattle.pc_grammar.specs.Expressions.{signs, addend}
-use Rattle.pc_grammar.specs.Rights.{bound_of, choice_of, alone, bound, choice, is_bound, is_choice, is_right, more, more_or_last, joined, last_or_more, part, right}
+use Rattle.pc_grammar.specs.Rights.{bound_of, open_bound, choice_of, alone, closed_bound, bound, choice, is_closed_bound, is_bound, is_choice, is_right, more, more_or_last, joined, last_or_more, part, right}
 use Rattle.pc_grammar.proofs.Combinators.{Laws, Begins, map_laws, both_laws, either_laws, maybe_laws, alike_laws}
 use Rattle.pc_grammar.proofs.Series.{series_laws, series_opens}
-use Rattle.pc_grammar.proofs.Sets.{parted, parts, fewer, none_ends, one_begins, map_begins, both_begins, either_begins}
+use Rattle.pc_grammar.proofs.Sets.{parted, parts, fewer, none_ends, one_begins, map_begins, both_begins, either_begins, maybe_begins}
 use Rattle.pc_grammar.proofs.Expressions.{only, after_addend, after_expr, begins_expr, Opens, then_laws, closed_laws, one_laws, addend_begins, expr_begins, addend_laws}
 use Rattle.pc_grammar.proofs.Chains.{is_last_or_more, is_part, is_chain, is_joined, chain_joined, joined_chain}
 
-bound_laws : Laws none is_bound is_bound bound bound
-bound_laws = map_laws bound_of none _ _ _ _ (both_laws (the terminal.Minus) none none _ _ _ _ _ _ _ _
+abbrev begins_closed : List Terminal
+begins_closed = terminal.Minus ∷ terminal.Number ∷ []
+
+closed_bound_begins : (a : Bound) (w : Text) → is_closed_bound a w → Begins (among begins_closed) w
+closed_bound_begins = map_begins bound_of _ _ (maybe_begins (only terminal.Minus) (only terminal.Number) begins_closed _ _ refl refl (one_begins (only terminal.Minus)) (one_begins (only terminal.Number)))
+
+closed_bound_laws : Laws none is_closed_bound is_closed_bound closed_bound closed_bound
+closed_bound_laws = map_laws bound_of none _ _ _ _ (both_laws (the terminal.Minus) none none _ _ _ _ _ _ _ _
     (maybe_laws (the terminal.Minus) none (the terminal.Minus) _ _ _ _ (one_laws terminal.Minus refl) (one_begins (only terminal.Minus)) (λ r e. e) (λ r e. none_ends r))
     (one_laws terminal.Number refl)
     (λ b v r m e. parts (only terminal.Number) (only terminal.Minus) refl v r (one_begins (only terminal.Number) b v m))
     (λ r e. e))
+
+bound_laws : Laws none is_bound is_bound bound bound
+bound_laws = either_laws (the terminal.Star) none _ _ _ _ _ _ _ _
+    (map_laws open_bound none _ _ _ _ (one_laws terminal.Star refl))
+    closed_bound_laws
+    (map_begins _ _ _ (one_begins (only terminal.Star)))
+    (λ a w l r e. parts begins_closed (only terminal.Star) refl w r (closed_bound_begins a w l))
 
 pub choice_laws : Laws none is_choice is_choice choice choice
 choice_laws = map_laws choice_of none _ _ _ _

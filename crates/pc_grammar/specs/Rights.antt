@@ -1,5 +1,5 @@
 -- Right sides of assignments, as parsers and as languages:
---   right = choice | expr [ "+" choice ]    choice = "[" bound "," bound "]"    bound = [ "-" ] number
+--   right = choice | expr [ "+" choice ]    choice = "[" bound "," bound "]"    bound = [ "-" ] number | "*"
 -- The parser takes addends until a choice, since a "+" alone does not tell which of the two follows.
 use Rattle.std.specs.Prelude.{List, Option, Some, None, ℤ, pos, negsuc, neg_ℤ}
 use Rattle.pc_grammar.specs.declared.symbol.Symbol.{Symbol}
@@ -25,6 +25,10 @@ abbrev pub bound_of : Option Symbol × Symbol → Bound
 bound_of (None, s) = bound_is.At s.number
 bound_of (Some m, s) = bound_is.At (opposite s.number)
 
+-- `*`
+abbrev pub open_bound : Symbol → Bound
+open_bound s = bound_is.Open
+
 abbrev pub choice_of : Symbol × (Bound × (Symbol × (Bound × Symbol))) → Choice
 choice_of x = record { lo = x.1.0; hi = x.1.1.1.0; place = x.0.place }
 
@@ -38,14 +42,20 @@ right_of (x, Some y) = record { expr = x; choice = Some y.1 }
 
 -- ---- choices
 
+abbrev pub closed_bound : Parser Bound
+closed_bound = map_parser bound_of (both (maybe (the terminal.Minus) (one terminal.Minus)) (one terminal.Number))
+
 abbrev pub bound : Parser Bound
-bound = map_parser bound_of (both (maybe (the terminal.Minus) (one terminal.Minus)) (one terminal.Number))
+bound = either (the terminal.Star) (map_parser open_bound (one terminal.Star)) closed_bound
 
 abbrev pub choice : Parser Choice
 choice = map_parser choice_of (both (one terminal.OpenBracket) (both bound (both (one terminal.Comma) (both bound (one terminal.CloseBracket)))))
 
+abbrev pub is_closed_bound : Lang Bound
+is_closed_bound = is_map bound_of (is_both (is_maybe (is_one terminal.Minus)) (is_one terminal.Number))
+
 abbrev pub is_bound : Lang Bound
-is_bound = is_map bound_of (is_both (is_maybe (is_one terminal.Minus)) (is_one terminal.Number))
+is_bound = is_either (is_map open_bound (is_one terminal.Star)) is_closed_bound
 
 abbrev pub is_choice : Lang Choice
 is_choice = is_map choice_of (is_both (is_one terminal.OpenBracket) (is_both is_bound (is_both (is_one terminal.Comma) (is_both is_bound (is_one terminal.CloseBracket)))))

@@ -22,8 +22,8 @@ fn opposite(number: i128) -> i128
 }
 
 /// A number, with a `-` before it or none.
-fn bound(cursor: &mut Cursor<'_>) -> Result<Bound, Stop>
-    ensures reads { Reads (spec.bound cursor.old.rest.now) result cursor.new.rest.now }
+fn closed_bound(cursor: &mut Cursor<'_>) -> Result<Bound, Stop>
+    ensures reads { Reads (spec.closed_bound cursor.old.rest.now) result cursor.new.rest.now }
     ensures shrinks { length cursor.new.rest.now ≤ length cursor.old.rest.now }
     ensures fault { IfErr result (λ e. e ≡ Stop.Syntax) }
 {
@@ -34,6 +34,20 @@ fn bound(cursor: &mut Cursor<'_>) -> Result<Bound, Stop>
     } else {
         let number = cursor.take(Terminal::Number)?;
         Ok(Bound::At(number.number))
+    }
+}
+
+/// An end of an interval: `*` leaves it open.
+fn bound(cursor: &mut Cursor<'_>) -> Result<Bound, Stop>
+    ensures reads { Reads (spec.bound cursor.old.rest.now) result cursor.new.rest.now }
+    ensures shrinks { length cursor.new.rest.now ≤ length cursor.old.rest.now }
+    ensures fault { IfErr result (λ e. e ≡ Stop.Syntax) }
+{
+    if cursor.sees(Terminal::Star) {
+        cursor.take(Terminal::Star)?;
+        Ok(Bound::Open)
+    } else {
+        closed_bound(cursor)
     }
 }
 

@@ -10,6 +10,8 @@ use pc_text::Place;
 pub enum Bound {
     /// A number, with its sign.
     At(i128),
+    /// `*`: the interval has no end on this side.
+    Open,
 }
 
 /// A choice of an integer from `lo` to `hi`, both included; whether there is one is not tested
@@ -21,10 +23,12 @@ pub struct Choice {
     pub place: Place,
 }
 
-/// The integer at an end of an interval.
-pub fn end_of(bound: Bound) -> i128
+/// The integer at an end of an interval, or none where the end is open.
+pub fn end_of(bound: Bound) -> Option<i128>
     ensures { result ≡ end_of bound }
 {
-    let Bound::At(n) = bound;
-    n
+    match bound {
+        Bound::At(n) => Some(n),
+        Bound::Open => None,
+    }
 }

@@ -10,18 +10,21 @@ use Rattle.pc_text.specs.Named.{locals}
 use Rattle.pc_program.specs.Values.{value_of, all_hold, chosen}
 use Rattle.pc_rows.specs.Linear.{State}
 
--- the least and the greatest integer that an assignment may add to its expression
-abbrev pub low : Option Choice → ℤ
-low None = pos 0
+-- the least and the greatest integer that an assignment may add to its expression; none where there is no least or no greatest
+abbrev pub low : Option Choice → Option ℤ
+low None = Some (pos 0)
 low (Some choice) = end_of choice.lo
 
-abbrev pub high : Option Choice → ℤ
-high None = pos 0
+abbrev pub high : Option Choice → Option ℤ
+high None = Some (pos 0)
 high (Some choice) = end_of choice.hi
 
--- a step's choice, brought into an interval
-abbrev pub clamped : ℤ → ℤ → ℤ → ℤ
-clamped lo hi c = if int_lt c lo then lo else (if int_lt hi c then hi else c)
+-- a step's choice, brought into an interval: an open end leaves it as it is
+abbrev pub clamped : Option ℤ → Option ℤ → ℤ → ℤ
+clamped (Some lo) (Some hi) c = if int_lt c lo then lo else (if int_lt hi c then hi else c)
+clamped (Some lo) None c = if int_lt c lo then lo else c
+clamped None (Some hi) c = if int_lt hi c then hi else c
+clamped None None c = c
 
 -- what an assignment adds to its expression
 abbrev pub drawn : Option Choice → ℤ → ℤ

@@ -1,13 +1,12 @@
 -- What every program keeps: the context rules, as a test of its names and of its body.
-use Rattle.std.specs.Prelude.{ℕ, ◌+◌, nat_lt, nat_le, int_le, List, [], ◌∷◌, length, map, sum, Option, Some, None, Bool, true, false, ◌&&◌, not, if◌then◌else◌}
+use Rattle.std.specs.Prelude.{ℕ, ℤ, ◌+◌, nat_lt, nat_le, int_le, List, [], ◌∷◌, length, map, sum, Option, Some, None, Bool, true, false, ◌&&◌, not, if◌then◌else◌}
 use Rattle.std.specs.List.{list_all}
 use Rattle.pc_rows.specs.declared.row.TheConstants.{VARIABLES}
 use Rattle.pc_rows.specs.Linear.{in_range}
 use Rattle.pc_language.specs.declared.operator.Op.TheVariants as op
 use Rattle.pc_language.specs.declared.operator.Op.{Op}
-use Rattle.pc_language.specs.declared.choice.Bound.{Bound}
-use Rattle.pc_language.specs.declared.choice.Bound.TheVariants as bound
 use Rattle.pc_language.specs.declared.choice.Choice.{Choice}
+use Rattle.pc_language.specs.Ends.{end_of}
 use Rattle.pc_language.specs.declared.limits.TheConstants.{COMPARISONS}
 use Rattle.pc_language.specs.declared.limits.TheConstants.{EDGES}
 use Rattle.pc_program.specs.declared.tree.Expr.{Expr, Expr-F, fold-Expr}
@@ -60,13 +59,16 @@ sane_test n (test.All []) = false
 sane_test n (test.All (c ∷ [])) = sane_compare n c
 sane_test n (test.All (c ∷ d ∷ cs)) = sane_each n (c ∷ d ∷ cs)
 
-abbrev pub in_order : Bound → Bound → Bool
-in_order (bound.At lo) (bound.At hi) = in_range lo && (in_range hi && int_le lo hi)
+-- closed ends are in range, and where both are closed they are in order
+abbrev pub in_order : Option ℤ → Option ℤ → Bool
+in_order (Some lo) (Some hi) = in_range lo && (in_range hi && int_le lo hi)
+in_order (Some lo) None = in_range lo
+in_order None (Some hi) = in_range hi
+in_order None None = true
 
--- the bounds of a choice are in range and in order
 abbrev pub sane_choice : Option Choice → Bool
 sane_choice None = true
-sane_choice (Some c) = in_order c.lo c.hi
+sane_choice (Some c) = in_order (end_of c.lo) (end_of c.hi)
 
 abbrev pub sane_right : ℕ → Right → Bool
 sane_right n r = sane_expr n r.expr && sane_choice r.choice

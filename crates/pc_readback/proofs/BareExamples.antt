@@ -22,7 +22,7 @@ a = roll-Expr (e.Name 0)
 
 -- an assignment and a loop whose places begin at a column
 abbrev assigned : ℕ → Expr → Stmt
-assigned c x = roll-Stmt (s.Set (column c) 0 (record { expr = roll-Expr (e.Neg (roll-Expr (e.Sub a x (column (c + 2)))) (column (c + 1))); choice = Some (record { lo = bound.At (pos 0); hi = bound.At (pos 3); place = column (c + 3) }) }))
+assigned c x = roll-Stmt (s.Set (column c) 0 (record { expr = roll-Expr (e.Neg (roll-Expr (e.Sub a x (column (c + 2)))) (column (c + 1))); choice = Some (record { lo = bound.At (pos 0); hi = bound.Open; place = column (c + 3) }) }))
 
 abbrev looped : ℕ → Expr → Stmt
 looped c x = roll-Stmt (s.While (column c) (test.All (record { op = op.Less; left = a; right = x; place = column (c + 1) } ∷ [])) [] (assigned (c + 5) x ∷ []))

@@ -16,6 +16,7 @@ use Rattle.pc_language.specs.declared.operator.Op.TheVariants as op
 use Rattle.pc_language.specs.declared.choice.Bound.{Bound}
 use Rattle.pc_language.specs.declared.choice.Bound.TheVariants as bound
 use Rattle.pc_language.specs.declared.choice.Choice.{Choice}
+use Rattle.pc_language.specs.Ends.{end_of}
 use Rattle.pc_language.specs.declared.limits.TheConstants.{EDGES}
 use Rattle.pc_program.specs.declared.tree.Expr.{Expr, Expr-F, map-Expr, roll-Expr, fold-roll-Expr}
 use Rattle.pc_program.specs.declared.tree.Expr.TheOpen as expr
@@ -253,26 +254,31 @@ module _ (names : List Bytes) (each : list_all is_name names ≡ true) where
   opposite_literal : (k : ℕ) → in_range (negsuc k) ≡ true → is_literal (pos (suc k)) ≡ true
   opposite_literal k h = rw h refl
 
-  nice_bound : (z : ℤ) → in_range z ≡ true → IsNice (bound_pieces (bound.At z))
-  nice_bound (pos k) h r stop = ((natural_literal k h, stop), tt)
-  nice_bound (negsuc k) h r stop = sign terminal.Minus (Number (pos (suc k)) ∷ []) r refl refl ((opposite_literal k h, stop), tt)
+  nice_number : (z : ℤ) → in_range z ≡ true → IsNice (bound_pieces (bound.At z))
+  nice_number (pos k) h r stop = ((natural_literal k h, stop), tt)
+  nice_number (negsuc k) h r stop = sign terminal.Minus (Number (pos (suc k)) ∷ []) r refl refl ((opposite_literal k h, stop), tt)
 
-  closed_choice : (c : Choice) → sane.in_order c.lo c.hi ≡ true → IsClosed (choice_pieces (Some c))
-  closed_choice c h r = by c.lo c.hi h
-    where
-      by : (lo hi : Bound) → sane.in_order lo hi ≡ true →
-          AreApart (spaced terminal.Plus ++ (Mark terminal.OpenBracket ∷ bound_pieces lo ++ (Mark terminal.Comma ∷ Blank 1 ∷ bound_pieces hi ++ Mark terminal.CloseBracket ∷ []))) r
-      by (bound.At lo) (bound.At hi) h =
-          let a = and_is (in_range lo) (in_range hi && int_le lo hi) h in
-          let b = and_is (in_range hi) (int_le lo hi) a.1 in
-          let last : AreApart (bound_pieces (bound.At hi) ++ Mark terminal.CloseBracket ∷ []) r =
-          apart_join (bound_pieces (bound.At hi)) (Mark terminal.CloseBracket ∷ []) r (nice_bound hi b.0 (93 ∷ r) close_bracket) (sign terminal.CloseBracket [] r refl refl tt) in
-          let rest : List Piece = Mark terminal.Comma ∷ Blank 1 ∷ bound_pieces (bound.At hi) ++ Mark terminal.CloseBracket ∷ [] in (
-            tt,
-            before_space terminal.Plus (Mark terminal.OpenBracket ∷ bound_pieces (bound.At lo) ++ rest) r refl
-                (sign terminal.OpenBracket (bound_pieces (bound.At lo) ++ rest) r refl refl
-                (apart_join (bound_pieces (bound.At lo)) rest r (nice_bound lo a.0 (bytes_of rest ++ r) comma) (before_space terminal.Comma (bound_pieces (bound.At hi) ++ Mark terminal.CloseBracket ∷ []) r refl last))),
-          )
+  nice_open : IsNice (bound_pieces bound.Open)
+  nice_open r stop = sign terminal.Star [] r refl refl tt
+
+  nice_ends : (lo hi : Bound) → sane.in_order (end_of lo) (end_of hi) ≡ true → IsNice (bound_pieces lo) × IsNice (bound_pieces hi)
+  nice_ends (bound.At lo) (bound.At hi) h =
+      let a = and_is (in_range lo) (in_range hi && int_le lo hi) h in (nice_number lo a.0, nice_number hi (and_is (in_range hi) (int_le lo hi) a.1).0)
+  nice_ends (bound.At lo) bound.Open h = (nice_number lo h, nice_open)
+  nice_ends bound.Open (bound.At hi) h = (nice_open, nice_number hi h)
+  nice_ends bound.Open bound.Open h = (nice_open, nice_open)
+
+  closed_choice : (c : Choice) → sane.in_order (end_of c.lo) (end_of c.hi) ≡ true → IsClosed (choice_pieces (Some c))
+  closed_choice c h r =
+      let nice = nice_ends c.lo c.hi h in
+      let last : AreApart (bound_pieces c.hi ++ Mark terminal.CloseBracket ∷ []) r =
+      apart_join (bound_pieces c.hi) (Mark terminal.CloseBracket ∷ []) r (nice.1 (93 ∷ r) close_bracket) (sign terminal.CloseBracket [] r refl refl tt) in
+      let rest : List Piece = Mark terminal.Comma ∷ Blank 1 ∷ bound_pieces c.hi ++ Mark terminal.CloseBracket ∷ [] in (
+        tt,
+        before_space terminal.Plus (Mark terminal.OpenBracket ∷ bound_pieces c.lo ++ rest) r refl
+            (sign terminal.OpenBracket (bound_pieces c.lo ++ rest) r refl refl
+            (apart_join (bound_pieces c.lo) rest r (nice.0 (bytes_of rest ++ r) comma) (before_space terminal.Comma (bound_pieces c.hi ++ Mark terminal.CloseBracket ∷ []) r refl last))),
+      )
 
   nice_choice : (c : Option Choice) → sane.sane_choice c ≡ true → IsNice (choice_pieces c)
   nice_choice None h r stop = tt

@@ -91,6 +91,8 @@ module _ (src : Bytes) (names : List Bytes) (b : ℕ) where
   bound_counted n (end.At (pos m)) = count_as src (Within b n 0) (Within b n 0) (Within b n 0) (Here b n) NoChoice (Number (pos m) ∷ []) (λ c w. w) (here b n 0) (pieces_counted src b n (Number (pos m) ∷ []) refl 0 (omega arith))
   bound_counted n (end.At (negsuc m)) = count_as src (Within b n 0) (Within b n 0) (Within b n 1) (Here b n) NoChoice (Mark terminal.Minus ∷ Number (pos (suc m)) ∷ []) (λ c w. w) (here b n 1)
       (pieces_counted src b n (Mark terminal.Minus ∷ Number (pos (suc m)) ∷ []) refl 0 (omega arith))
+  bound_counted n end.Open = count_as src (Within b n 0) (Within b n 0) (Within b n 1) (Here b n) NoChoice (Mark terminal.Star ∷ []) (λ c w. w) (here b n 1)
+      (pieces_counted src b n (Mark terminal.Star ∷ []) refl 0 (omega arith))
 
   -- a "+" before a choice is no sign
   choice_plus : (n : ℕ) → Count src (Mark terminal.Plus ∷ []) (Here b n) (Here b n) (λ v. starts (the terminal.OpenBracket) v ≡ true)

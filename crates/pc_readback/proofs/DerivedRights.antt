@@ -23,10 +23,10 @@ use Rattle.pc_show.specs.Canonical.{spaced, expr_pieces, bound_pieces, choice_pi
 use Rattle.pc_language.specs.Ends.{end_of}
 use Rattle.pc_program.specs.Forms.{form}
 use Rattle.pc_program.specs.Sane.{sane_expr, in_order, sane_choice, sane_right}
-use Rattle.pc_syntax.specs.Context.{checked_choice, checked_right}
+use Rattle.pc_syntax.specs.Context.{checked_ends, checked_choice, checked_right}
 use Rattle.pc_readback.specs.Bare.{bare_expr, bare_right}
 use Rattle.pc_program.proofs.Results.{and_is}
-use Rattle.pc_readback.proofs.Derived.{Derive, Derivable, Given, derive_map, derive_both, derive_right, derive_one, derive_number, derive_none, derive_some}
+use Rattle.pc_readback.proofs.Derived.{Derive, Derivable, Given, derive_map, derive_both, derive_left, derive_right, derive_one, derive_number, derive_none, derive_some}
 use Rattle.pc_readback.proofs.WalkedAgain.{IsExpr}
 use Rattle.pc_readback.proofs.DerivedTests.{sane_shown}
 
@@ -39,26 +39,34 @@ HasEnds c x = (x.lo ≡ c.lo) × (x.hi ≡ c.hi)
 not_less : (a b : ℤ) → int_le a b ≡ true → int_lt b a ≡ false
 not_less a b h = grind (arith, ints)
 
-ends_stand : (lo hi : Bound) → in_order lo hi ≡ true → int_lt (end_of hi) (end_of lo) ≡ false
-ends_stand (end.At a) (end.At b) h = not_less a b (and_is (in_range b) (int_le a b) (and_is (in_range a) (in_range b && int_le a b) h).1).1
+ends_stand : (x : Choice) (lo hi : Bound) → in_order (end_of lo) (end_of hi) ≡ true → checked_ends x (end_of lo) (end_of hi) ≡ Ok x
+ends_stand x (end.At a) (end.At b) h = let stands = not_less a b (and_is (in_range b) (int_le a b) (and_is (in_range a) (in_range b && int_le a b) h).1).1 in rw stands refl
+ends_stand x (end.At a) end.Open h = refl
+ends_stand x end.Open (end.At b) h = refl
+ends_stand x end.Open end.Open h = refl
 
 choice_stands : (c x : Choice) → sane_choice (Some c) ≡ true → HasEnds c x → checked_choice (Some x) ≡ Ok (Some x)
-choice_stands c x h (lo, hi) = rw (lo, hi, ends_stand c.lo c.hi h) refl
+choice_stands c x h (lo, hi) = rw (lo, hi, ends_stand x c.lo c.hi h) refl
 
 module _ (src : Bytes) where
-  bound_derives : (b : Bound) → Derive src (bound_pieces b) grammar.is_bound (λ x. x ≡ b)
-  bound_derives (end.At (pos n)) = derive_map src grammar.bound_of (is_both (is_maybe (is_one terminal.Minus)) (is_one terminal.Number)) _ _ (Number (pos n) ∷ []) (λ x h. by x.0 x.1 h.0 h.1)
+  number_derives : (z : ℤ) → Derive src (bound_pieces (end.At z)) grammar.is_closed_bound (λ x. x ≡ end.At z)
+  number_derives (pos n) = derive_map src grammar.bound_of (is_both (is_maybe (is_one terminal.Minus)) (is_one terminal.Number)) _ _ (Number (pos n) ∷ []) (λ x h. by x.0 x.1 h.0 h.1)
       (derive_both src (is_maybe (is_one terminal.Minus)) (is_one terminal.Number) _ _ [] (Number (pos n) ∷ []) (derive_none src (is_one terminal.Minus)) (derive_number src (pos n)))
     where
       by : (o : Option Symbol) (s : Symbol) → o ≡ None → s.number ≡ pos n → grammar.bound_of (o, s) ≡ end.At (pos n)
       by o s h k = rw h (ap end.At k)
-  bound_derives (end.At (negsuc n)) = derive_map src grammar.bound_of (is_both (is_maybe (is_one terminal.Minus)) (is_one terminal.Number)) _ _ (Mark terminal.Minus ∷ Number (pos (suc n)) ∷ []) (λ x h. by x.0 x.1 h.0 h.1)
+  number_derives (negsuc n) = derive_map src grammar.bound_of (is_both (is_maybe (is_one terminal.Minus)) (is_one terminal.Number)) _ _ (Mark terminal.Minus ∷ Number (pos (suc n)) ∷ []) (λ x h. by x.0 x.1 h.0 h.1)
       (derive_both src (is_maybe (is_one terminal.Minus)) (is_one terminal.Number) (Given src (λ s. s.terminal ≡ terminal.Minus)) _ (Mark terminal.Minus ∷ []) (Number (pos (suc n)) ∷ [])
       (derive_some src (is_one terminal.Minus) _ (Mark terminal.Minus ∷ []) (derive_one src terminal.Minus refl)) (derive_number src (pos (suc n))))
     where
       by : (o : Option Symbol) (s : Symbol) → Given src (λ s. s.terminal ≡ terminal.Minus) o → s.number ≡ pos (suc n) → grammar.bound_of (o, s) ≡ end.At (negsuc n)
       by None s h k = absurd h
       by (Some m) s h k = ap (λ z. end.At (grammar.opposite z)) k
+
+  bound_derives : (b : Bound) → Derive src (bound_pieces b) grammar.is_bound (λ x. x ≡ b)
+  bound_derives (end.At z) = derive_right src (is_map grammar.open_bound (is_one terminal.Star)) grammar.is_closed_bound (λ x. x ≡ end.At z) (bound_pieces (end.At z)) (number_derives z)
+  bound_derives end.Open = derive_left src (is_map grammar.open_bound (is_one terminal.Star)) grammar.is_closed_bound (λ x. x ≡ end.Open) (bound_pieces end.Open)
+      (derive_map src grammar.open_bound (is_one terminal.Star) _ (λ x. x ≡ end.Open) (Mark terminal.Star ∷ []) (λ s h. refl) (derive_one src terminal.Star refl))
 
   choice_derives : (c : Choice) →
       Derive src (Mark terminal.OpenBracket ∷ bound_pieces c.lo ++ (Mark terminal.Comma ∷ Blank 1 ∷ bound_pieces c.hi ++ Mark terminal.CloseBracket ∷ [])) grammar.is_choice (HasEnds c)

@@ -35,4 +35,5 @@ pub mod CountedStmts
 pub mod CountedPrograms
 pub mod ReadBack
 pub mod BareExamples
+pub mod BareTexts
 pub mod Spelled

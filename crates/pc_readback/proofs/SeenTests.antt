@@ -91,10 +91,14 @@ module _ (src : Bytes) where
   level_both : {A B : Type 0} (L : Lang A) (M : Lang B) → Sees (spelled src) L Level → Sees (spelled src) M Level → Sees (spelled src) (is_both L M) Level
   level_both L M l m = both_sees (spelled src) L M Level Level Level (λ x c e d i j. j ∙ i) l m
 
-  bound_sees : Sees (spelled src) rights.is_bound Level
-  bound_sees = map_sees (spelled src) rights.bound_of (is_both (is_maybe (is_one terminal.Minus)) (is_one terminal.Number)) Level Level (λ x c d i. i)
+  closed_bound_sees : Sees (spelled src) rights.is_closed_bound Level
+  closed_bound_sees = map_sees (spelled src) rights.bound_of (is_both (is_maybe (is_one terminal.Minus)) (is_one terminal.Number)) Level Level (λ x c d i. i)
       (level_both (is_maybe (is_one terminal.Minus)) (is_one terminal.Number)
       (maybe_sees (spelled src) (is_one terminal.Minus) Level Level (λ c. refl) (λ s c d i. i) (level_one (terminal.Minus ∷ []) refl)) (level_one (terminal.Number ∷ []) refl))
+
+  bound_sees : Sees (spelled src) rights.is_bound Level
+  bound_sees = either_sees (spelled src) (is_map rights.open_bound (is_one terminal.Star)) rights.is_closed_bound Level
+      (map_sees (spelled src) rights.open_bound (is_one terminal.Star) Level Level (λ s c d i. i) (level_one (terminal.Star ∷ []) refl)) closed_bound_sees
 
   choice_sees : Sees (spelled src) rights.is_choice Level
   choice_sees = map_sees (spelled src) rights.choice_of (is_both (is_one terminal.OpenBracket) (is_both rights.is_bound (is_both (is_one terminal.Comma) (is_both rights.is_bound (is_one terminal.CloseBracket))))) Level Level (λ x c d i. i)

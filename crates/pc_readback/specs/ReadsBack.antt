@@ -18,3 +18,7 @@ ShowReadsBack = (p : Program) → is_showable p.names p.body ≡ true → (q : P
 -- and no other
 abbrev pub NothingElseReadsBack : Type 0
 NothingElseReadsBack = (p q : Program) → is_showable p.names p.body ≡ true → Spells (program_text p.names p.body) q → SamePrograms p q
+
+-- programs that are the same apart from places have one canonical text
+abbrev pub TextsLeaveOutPlaces : Type 0
+TextsLeaveOutPlaces = (p q : Program) → SamePrograms p q → program_text p.names p.body ≡ program_text q.names q.body

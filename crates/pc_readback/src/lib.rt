@@ -4,4 +4,6 @@
 
 mod laws;
 
-pub use laws::{canonical_texts_are_cut, show_reads_back, spelled_are_showable};
+pub use laws::{
+    canonical_texts_are_cut, show_reads_back, spelled_are_showable, texts_leave_out_places,
+};

@@ -1,8 +1,20 @@
 -- The definitions at worked texts.
-use Rattle.std.proofs.Common.{◌≡◌, refl, pos, [], ◌∷◌, Ok, Err, codes}
+use Rattle.std.proofs.Common.{◌≡◌, ℕ, ℤ, refl, pos, negsuc, List, [], ◌∷◌, Option, Some, None, Ok, Err, codes}
+use Rattle.pc_text.specs.declared.place.Place.{Place}
 use Rattle.pc_text.specs.Lexemes.{class}
+use Rattle.pc_language.specs.declared.operator.Op.TheVariants as op
+use Rattle.pc_language.specs.declared.choice.Bound.TheVariants.{At, Open}
+use Rattle.pc_program.specs.declared.tree.Expr.{roll-Expr, fold-roll-Expr}
+use Rattle.pc_program.specs.declared.tree.Expr.TheOpen as e
+use Rattle.pc_program.specs.declared.tree.Stmt.{Stmt, roll-Stmt, out-roll-Stmt}
+use Rattle.pc_program.specs.declared.tree.Stmt.TheOpen as s
+use Rattle.pc_program.specs.Machine.{clamped}
 use Rattle.pc_runner.specs.declared.fault.ScriptFault.TheVariants as fault
+use Rattle.pc_runner.specs.declared.verdict.Verdict.TheVariants as verdict
 use Rattle.pc_runner.specs.Scripts.{script_of}
+use Rattle.pc_runner.specs.Verdicts.{verdict_from}
+
+-- ---- scripts
 
 repeated : script_of 1 (codes "entry 6\nchoose 1 3\nchoose 0\n") ≡ Ok (record { entry = pos 6 ∷ []; choices = pos 1 ∷ pos 1 ∷ pos 1 ∷ pos 0 ∷ [] })
 unfolding script_of
@@ -44,3 +56,31 @@ never = refl
 too_large : script_of 1 (codes "entry 170141183460469231731687303715884105728 1\n") ≡ Err (fault.Number 1)
 unfolding script_of class
 too_large = refl
+
+-- ---- choices from intervals
+
+below_its_end : clamped (Some (pos 2)) None (negsuc 3) ≡ pos 2
+below_its_end = refl
+
+above_its_end : clamped None (Some (pos 2)) (pos 7) ≡ pos 2
+above_its_end = refl
+
+beyond_open_ends : clamped None None (negsuc 3) ≡ negsuc 3
+beyond_open_ends = refl
+
+-- ---- runs of: entry (x) { x = x + [0, *]; assert (x <= 5); }
+
+abbrev column : ℕ → Place
+column c = record { line = 1; column = c }
+
+abbrev body : List Stmt
+body =
+    roll-Stmt (s.Set (column 13) 0 (record { expr = roll-Expr (e.Name 0); choice = Some (record { lo = At (pos 0); hi = Open; place = column 21 }) }))
+    ∷ roll-Stmt (s.Assert (column 29) (record { op = op.AtMost; left = roll-Expr (e.Name 0); right = roll-Expr (e.Num (pos 5)); place = column 39 } ∷ []))
+    ∷ []
+
+above_the_number : verdict_from body (pos 0 ∷ []) (pos 6 ∷ pos 6 ∷ []) ≡ verdict.Violated 2 (column 29)
+above_the_number = simp (out-roll-Stmt, fold-roll-Expr)
+
+below_the_number : verdict_from body (pos 0 ∷ []) (negsuc 3 ∷ negsuc 3 ∷ []) ≡ verdict.Going (pos 0 ∷ [])
+below_the_number = simp (out-roll-Stmt, fold-roll-Expr)

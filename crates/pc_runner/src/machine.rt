@@ -1,6 +1,6 @@
 //! The machine that runs a program.
 
-ghost use Rattle.std.specs.Prelude.{◌≡◌, ◌∷◌, ◌++◌, IfOk, slice_set};
+ghost use Rattle.std.specs.Prelude.{◌≡◌, ◌∷◌, ◌++◌, IfOk, None, slice_set};
 ghost use Rattle.pc_program.specs.Machine.{clamped};
 ghost use Rattle.pc_language.specs.Ends.{end_of};
 ghost use Rattle.pc_program.specs.declared.tree.Stmt.{out-Stmt};
@@ -133,18 +133,23 @@ fn value_to_assign(right: &Right, state: &[i128], choice: i128) -> Result<i128, 
     }
 }
 
-/// A choice, brought into an interval.
+/// A choice, brought into an interval: an open end leaves it as it is.
 fn clamp(interval: &Choice, choice: i128) -> i128
     ensures { result ≡ clamped (end_of interval.now.lo) (end_of interval.now.hi) choice }
 {
-    let Bound::At(low) = interval.lo;
-    let Bound::At(high) = interval.hi;
-    if choice < low {
-        low
-    } else if high < choice {
-        high
-    } else {
-        choice
+    match interval.lo {
+        Bound::At(low) if choice < low => low,
+        _ => at_most(interval.hi, choice),
+    }
+}
+
+/// A choice, brought below an end.
+fn at_most(end: Bound, choice: i128) -> i128
+    ensures { result ≡ clamped None (end_of end) choice }
+{
+    match end {
+        Bound::At(high) if high < choice => high,
+        Bound::At(_) | Bound::Open => choice,
     }
 }
 

@@ -52,6 +52,12 @@ set v x c = roll-Stmt (s.Set here v (record { expr = x; choice = c }))
 abbrev interval : ℤ → ℤ → Option Choice
 interval lo hi = Some (record { lo = bound.At lo; hi = bound.At hi; place = here })
 
+abbrev at_least : ℤ → Option Choice
+at_least lo = Some (record { lo = bound.At lo; hi = bound.Open; place = here })
+
+abbrev anything : Option Choice
+anything = Some (record { lo = bound.Open; hi = bound.Open; place = here })
+
 abbrev if_any : List Stmt → List Stmt → Stmt
 if_any xs ys = roll-Stmt (s.If here test.Any xs ys)
 
@@ -121,6 +127,14 @@ interval_alone : stmt_text (set 0 (num 0) (interval (pos 3) (pos 4))) ≡ codes 
 unfolding numeral
 interval_alone = simp (expr_laid, stmt_laid)
 
+open_end : stmt_text (set 0 a (at_least (pos 0))) ≡ codes "  a = a + [0, *];\n"
+unfolding numeral
+open_end = simp (expr_laid, stmt_laid)
+
+open_ends : stmt_text (set 0 (num 0) anything) ≡ codes "  a = 0 + [*, *];\n"
+unfolding numeral
+open_ends = simp (expr_laid, stmt_laid)
+
 conjunction : stmt_text (roll-Stmt (s.Assume here (compared op.Greater a b ∷ compared op.AtMost (add b c) a ∷ []))) ≡ codes "  assume (a > b && b + c <= a);\n"
 conjunction = simp (expr_laid, stmt_laid)
 
@@ -154,3 +168,13 @@ a_whole_program : program_text x_y_z (assigned ∷ if_any [] (claimed ∷ []) �
     ≡ codes "entry (x, y) {\n  var z;\n  z = x - (y - 1) + [0, 2];\n  if (*) {\n  } else {\n    assert (z < 2 && x == -y);\n  }\n}\n"
 unfolding numeral
 a_whole_program = simp (expr_laid, stmt_laid)
+
+abbrev grown : Stmt
+grown = set 0 (var 0) (at_least (pos 0))
+
+abbrev bounded : Stmt
+bounded = roll-Stmt (s.Assert here (compared op.AtMost (var 0) (num 5) ∷ []))
+
+an_open_end : program_text (record { names = codes "x" ∷ []; params = 1 }) (grown ∷ bounded ∷ []) ≡ codes "entry (x) {\n  x = x + [0, *];\n  assert (x <= 5);\n}\n"
+unfolding numeral
+an_open_end = simp (expr_laid, stmt_laid)

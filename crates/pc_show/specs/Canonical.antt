@@ -109,6 +109,7 @@ module _ (names : List Bytes) where
 abbrev pub bound_pieces : Bound → List Piece
 bound_pieces (bound.At (pos n)) = Number (pos n) ∷ []
 bound_pieces (bound.At (negsuc n)) = Mark terminal.Minus ∷ Number (pos (suc n)) ∷ []
+bound_pieces bound.Open = Mark terminal.Star ∷ []
 
 -- what is added to the expression
 abbrev pub choice_pieces : Option Choice → List Piece

@@ -128,10 +128,14 @@ module _ (n : ℕ) where
   bound_fits (None, s) h = (and_is (fit_symbol n s) (in_range s.number) h).1
   bound_fits (Some m, s) h = opposite_in_range s.number (and_is (fit_symbol n s) (in_range s.number) (and_is (fits n m) (fits n s) h).1).1
 
-  bound_passes : Passes n rights.is_bound fit_bound
-  bound_passes = map_passes n rights.bound_of (is_both (is_maybe (is_one terminal.Minus)) (is_one terminal.Number)) (pair (optional (fits n)) (fits n)) fit_bound bound_fits
+  closed_bound_passes : Passes n rights.is_closed_bound fit_bound
+  closed_bound_passes = map_passes n rights.bound_of (is_both (is_maybe (is_one terminal.Minus)) (is_one terminal.Number)) (pair (optional (fits n)) (fits n)) fit_bound bound_fits
       (both_passes n (is_maybe (is_one terminal.Minus)) (is_one terminal.Number) (optional (fits n)) (fits n)
       (maybe_passes n (is_one terminal.Minus) (fits n) (one_passes n (terminal.Minus ∷ []))) (one_passes n (terminal.Number ∷ [])))
+
+  bound_passes : Passes n rights.is_bound fit_bound
+  bound_passes = either_passes n (is_map rights.open_bound (is_one terminal.Star)) rights.is_closed_bound fit_bound
+      (map_passes n rights.open_bound (is_one terminal.Star) (fits n) fit_bound (λ s h. refl) (one_passes n (terminal.Star ∷ []))) closed_bound_passes
 
   of_choice : Choice → Bool
   of_choice c = fit_choice (Some c)

@@ -127,18 +127,28 @@ test_of_more n c d cs (x ∷ y ∷ xs) h is = record {
 le_unless : (a b : ℤ) → int_lt b a ≡ false → int_le a b ≡ true
 le_unless a b h = grind (arith, ints)
 
-in_order_of : (lo hi : Bound) → trees.fit_bound lo ≡ true → trees.fit_bound hi ≡ true → int_lt (end_of hi) (end_of lo) ≡ false → sane.in_order lo hi ≡ true
-in_order_of (bound.At a) (bound.At b) h k e =
-    and_of (in_range a) (in_range b && int_le a b) h (and_of (in_range b) (int_le a b) k (le_unless a b e))
+closed_in_order : (a b : ℤ) → in_range a ≡ true → in_range b ≡ true → int_lt b a ≡ false → sane.in_order (Some a) (Some b) ≡ true
+closed_in_order a b h k e = and_of (in_range a) (in_range b && int_le a b) h (and_of (in_range b) (int_le a b) k (le_unless a b e))
+
+-- a choice that is accepted has ends that fit and are in order
+ends_keep : (c : Choice) (lo hi : Bound) → trees.fit_bound lo ≡ true → trees.fit_bound hi ≡ true
+    → IfOk (bind (walk.checked_ends c (end_of lo) (end_of hi)) (λ c. Ok (Some c))) (λ d. (d ≡ Some c) × (sane.in_order (end_of lo) (end_of hi) ≡ true))
+ends_keep c (bound.At a) (bound.At b) h k = by (int_lt b a) refl
+  where
+    by : (empty : Bool) → int_lt b a ≡ empty
+        → IfOk {T = Option Choice} {E = SourceFault} (bind (cond empty (Err (fault.EmptyInterval c.place a b)) (Ok c)) (λ c. Ok (Some c))) (λ d. (d ≡ Some c) × (sane.in_order (Some a) (Some b) ≡ true))
+    by true e = tt
+    by false e = (refl, closed_in_order a b h k e)
+ends_keep c (bound.At a) bound.Open h k = (refl, h)
+ends_keep c bound.Open (bound.At b) h k = (refl, k)
+ends_keep c bound.Open bound.Open h k = (refl, refl)
 
 choice_keeps : (c : Option Choice) → trees.fit_choice c ≡ true → IfOk (walk.checked_choice c) (λ c. sane.sane_choice c ≡ true)
 choice_keeps None h = refl
-choice_keeps (Some c) h = by (int_lt (end_of c.hi) (end_of c.lo)) refl
-  where
-    by : (b : Bool) → int_lt (end_of c.hi) (end_of c.lo) ≡ b →
-        IfOk {T = Option Choice} {E = SourceFault} (cond b (Err (fault.EmptyInterval c.place (end_of c.lo) (end_of c.hi))) (Ok (Some c))) (λ c. sane.sane_choice c ≡ true)
-    by true e = tt
-    by false e = let p = and_is (trees.fit_bound c.lo) (trees.fit_bound c.hi) h in in_order_of c.lo c.hi p.0 p.1 e
+choice_keeps (Some c) h =
+    let p = and_is (trees.fit_bound c.lo) (trees.fit_bound c.hi) h in
+    weaker (λ d. (d ≡ Some c) × (sane.in_order (end_of c.lo) (end_of c.hi) ≡ true)) (λ d. sane.sane_choice d ≡ true) (walk.checked_choice (Some c))
+    (λ d k. ap sane.sane_choice k.0 ∙ k.1) (ends_keep c c.lo c.hi p.0 p.1)
 
 module _ (src : Bytes) (names : List Bytes) (few : length names ≤ VARIABLES) (n : ℕ) where
   walked_compare : (alone : Bool) (c : CompareTree) → trees.fit_compare n c ≡ true → IfOk (walk.checked_compare src names alone c) (IsCompared alone (length names) c)

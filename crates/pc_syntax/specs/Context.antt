@@ -1,5 +1,5 @@
 -- The context rules: what a parse tree is a program of, in the order in which the rules are tested.
-use Rattle.std.specs.Prelude.{ℕ, ◌+◌, nat_lt, int_lt, negsuc, List, [], ◌∷◌, ◌++◌, length, map, slice_range, Option, Some, None, is_some, Bool, true, false, ◌&&◌, not, Result, Ok, Err, if◌then◌else◌}
+use Rattle.std.specs.Prelude.{ℕ, ℤ, ◌+◌, nat_lt, int_lt, negsuc, List, [], ◌∷◌, ◌++◌, length, map, slice_range, Option, Some, None, is_some, Bool, true, false, ◌&&◌, not, Result, Ok, Err, if◌then◌else◌}
 use Rattle.pc_text.specs.declared.place.Place.{Place}
 use Rattle.pc_rows.specs.Linear.{Linear, sum_of, difference_of, scaled_by, of_constant, fits}
 use Rattle.pc_rows.specs.declared.row.TheConstants.{VARIABLES}
@@ -86,11 +86,15 @@ with_rows c l r =
     bind (lifted (fit_rows c.place (rows_by c.op l.form r.form))) (λ rs.
     Ok (record { op = c.op; left = l.expr; right = r.expr; place = c.place }))
 
--- the bounds of a choice are in order
+-- an interval with two closed ends is not empty
+abbrev pub checked_ends : Choice → Option ℤ → Option ℤ → Result Choice SourceFault
+checked_ends c (Some lo) (Some hi) = if int_lt hi lo then Err (fault.EmptyInterval c.place lo hi) else Ok c
+checked_ends c (Some lo) None = Ok c
+checked_ends c None hi = Ok c
+
 abbrev pub checked_choice : Option Choice → Result (Option Choice) SourceFault
 checked_choice None = Ok None
-checked_choice (Some c) =
-    if int_lt (end_of c.hi) (end_of c.lo) then Err (fault.EmptyInterval c.place (end_of c.lo) (end_of c.hi)) else Ok (Some c)
+checked_choice (Some c) = bind (checked_ends c (end_of c.lo) (end_of c.hi)) (λ c. Ok (Some c))
 
 -- how many rows a conjunction has
 abbrev pub rows_in : List CompareTree → ℕ

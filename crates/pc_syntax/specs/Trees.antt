@@ -51,6 +51,7 @@ fit_test n (test.All cs) = fit_all n cs
 
 abbrev pub fit_bound : Bound → Bool
 fit_bound (bound.At z) = in_range z
+fit_bound bound.Open = true
 
 abbrev pub fit_choice : Option Choice → Bool
 fit_choice None = true

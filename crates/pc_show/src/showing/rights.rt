@@ -11,11 +11,14 @@ use pc_language::{Bound, Choice, end_of};
 use pc_program::Right;
 use pc_text::{Names, NoMemory, Text};
 
-/// Appends an end of an interval.
+/// Appends an end of an interval, which is a `*` where it is open.
 fn push_bound(text: &mut Text, bound: Bound) -> Result<(), NoMemory>
     ensures { OnOk result (text.new ≡ text.old ++ bytes_of (spec.bound_pieces bound)) }
 {
-    text.push_number(end_of(bound))
+    match bound {
+        Bound::At(number) => text.push_number(number),
+        Bound::Open => text.push_all(b"*"),
+    }
 }
 
 /// Appends an interval with the sign before it, or nothing.

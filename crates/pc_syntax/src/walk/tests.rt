@@ -4,6 +4,7 @@ ghost use Rattle.std.specs.Prelude.{◌≡◌, ◌≤◌, ◌*◌, true, length,
 ghost use Rattle.std.specs.List.{list_all};
 ghost use Rattle.pc_rows.specs.Linear.{above_of, difference_of, negation, is_in_range};
 ghost use Rattle.pc_rows.specs.declared.row.TheConstants.{VARIABLES};
+ghost use Rattle.pc_language.specs.Ends.{end_of};
 ghost use Rattle.pc_syntax.specs.Context as spec;
 ghost use Rattle.pc_program.specs.Forms.{row_fits, rows_by, is_unequal};
 ghost use Rattle.pc_program.specs.Sane.{is_either};
@@ -14,7 +15,7 @@ use crate::fault::SourceFault;
 use crate::walk::Formed;
 use crate::walk::exprs::formed;
 use pc_grammar::{CompareTree, RightTree, TestTree};
-use pc_language::{Choice, Op, end_of};
+use pc_language::{Bound, Choice, Op};
 use pc_program::{Compare, Right, Test};
 use pc_rows::Row;
 use pc_text::{Names, Place};
@@ -207,19 +208,25 @@ pub fn test_edges(src: &[u8], tree: &TestTree) -> u32
     }
 }
 
-/// The bounds of a choice are in order.
+/// The choice, if its interval is not empty: an open end is beyond every number.
+fn checked_ends(c: Choice) -> Result<Choice, SourceFault>
+    ensures { result ≡ spec.checked_ends c (end_of c.lo) (end_of c.hi) }
+{
+    match (c.lo, c.hi) {
+        (Bound::At(lo), Bound::At(hi)) if hi < lo => {
+            Err(SourceFault::EmptyInterval(c.place, lo, hi))
+        }
+        _ => Ok(c),
+    }
+}
+
+/// The interval of a choice is not empty.
 fn choice(choice: Option<Choice>) -> Result<Option<Choice>, SourceFault>
     ensures { result ≡ spec.checked_choice choice }
 {
-    let Some(c) = choice else {
-        return Ok(None);
-    };
-    let lo = end_of(c.lo);
-    let hi = end_of(c.hi);
-    if hi < lo {
-        Err(SourceFault::EmptyInterval(c.place, lo, hi))
-    } else {
-        Ok(Some(c))
+    match choice {
+        Some(c) => Ok(Some(checked_ends(c)?)),
+        None => Ok(None),
     }
 }
 
