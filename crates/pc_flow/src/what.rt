@@ -1,5 +1,5 @@
-use pc_rows::{Row, Rows};
 use pc_language::Bound;
+use pc_rows::{Row, Rows};
 
 /// The most rows of a test or an assertion: two for each comparison of a conjunction.
 pub const TEST_ROWS: usize = 16;
