@@ -11,8 +11,7 @@ ghost use Rattle.pc_graph.specs.Ways.{ways};
 use crate::assembly::points;
 use crate::assignment::assigned;
 use crate::draft::Draft;
-use pc_flow::Graph;
-use pc_flow::What;
+use pc_flow::{Graph, What};
 use pc_program::{Compare, Program, Stmt, Test, rows_of};
 use pc_text::{NoMemory, Place};
 use std::alloc::Global;
@@ -166,11 +165,10 @@ pub fn lower(alloc: Global, p: &Program) -> Result<Graph, NoMemory>
         next: _,
         places,
         edges,
-        bodies,
         loops,
     } = draft;
     let points = points(alloc, loops.as_slice(), places.as_slice())?;
-    Ok(Graph::new(params, variables, points, edges, bodies))
+    Graph::new(alloc, params, variables, points, edges)
 }
 
 /// The entry, the start, and the edge from one to the other.
