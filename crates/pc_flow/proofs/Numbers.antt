@@ -1,14 +1,14 @@
 -- The numbers of the edges at a point.
-use Rattle.std.proofs.Common.{◌≡◌, ◌≢◌, ◌∙◌, ℕ, zero, suc, ◌+◌, ◌<◌, ◌≤◌, ◌==◌, List, [], ◌∷◌, ◌++◌, length, take, drop, set, get_or, Bool, true, false, cond, refl, sym, ap, subst, arith, slice_get, Some, inl, inr, take_all, length-set, length-take, eq-eqb}
+use Rattle.std.proofs.Common.{◌≡◌, ◌≢◌, ◌∙◌, ℕ, zero, suc, ◌+◌, ◌<◌, ◌≤◌, ◌==◌, List, [], ◌∷◌, ◌++◌, length, take, drop, set, get_or, Bool, true, false, cond, refl, sym, ap, subst, arith, slice_get, slice_index_or, Some, inl, inr, take_all, length-set, length-take, eq-eqb}
 use Rattle.std.specs.Prelude.{◌⊎◌, filter, replicate}
 use Rattle.std.specs.List.{AllByRecursion as Each}
 use Rattle.std.proofs.lemmas.Bool.Decides.{eqb_tells}
 use Rattle.std.proofs.lemmas.List.{take_more, get_or-set_same, get_or-set_other, length-replicate}
-use Rattle.std.proofs.lemmas.Option.{slice_get-get_or, get_or_from_slice_get, slice_get_read}
+use Rattle.std.proofs.lemmas.Option.{slice_get-get_or, get_or_from_slice_get, slice_get_read, slice_get_within}
 use Rattle.pc_flow.specs.declared.incidence.End.{End}
 use Rattle.pc_flow.specs.Arc.{Arc}
 use Rattle.pc_flow.proofs.Lists.{each_got}
-use Rattle.pc_flow.specs.Incidence.{numbers, AreAt, NumbersAreTheirs, AreNumbers, HasNone, point_at}
+use Rattle.pc_flow.specs.Incidence.{numbers, numbers_leaving, leaving, AreAt, NumbersAreTheirs, AreNumbers, HasNone, point_at}
 
 -- ---- the numbers tell the items that the test picks
 
@@ -37,6 +37,44 @@ numbers_are_theirs edges p = record {
   leaving = picked_are_at (λ e. e.from == p) edges 0 edges refl;
   entering = picked_are_at (λ e. e.to == p) edges 0 edges refl;
 }
+
+-- ---- lists of edges and of their numbers
+
+pub numbers_long : (edges : List Arc) (is : List ℕ) (some : List Arc) → AreAt edges is some → length is ≡ length some
+numbers_long edges [] [] h = refl
+numbers_long edges [] (e ∷ some) h = absurd h
+numbers_long edges (i ∷ is) [] h = absurd h
+numbers_long edges (i ∷ is) (e ∷ some) h = ap suc (numbers_long edges is some h.1)
+
+-- the edge at a number stands at the number's place
+pub edge_at_number : (edges : List Arc) (is : List ℕ) (some : List Arc) (k i : ℕ) → AreAt edges is some → slice_get is k ≡ Some i →
+    (e : Arc) × (slice_get edges i ≡ Some e) × (slice_get some k ≡ Some e)
+edge_at_number edges [] [] k i h got = absurd (cc)
+edge_at_number edges [] (e ∷ some) k i h got = absurd h
+edge_at_number edges (j ∷ is) [] k i h got = absurd h
+edge_at_number edges (j ∷ is) (e ∷ some) zero i h got = let same : j ≡ i = cc in (e, subst (λ (m : ℕ). slice_get edges m ≡ Some e) same h.0, refl)
+edge_at_number edges (j ∷ is) (e ∷ some) (suc k) i h got = edge_at_number edges is some k i h.1 got
+
+module _ (edges : List Arc) (p k : ℕ) (numbers : List ℕ) (listed : numbers ≡ numbers_leaving p edges) where
+  told : AreAt edges numbers (leaving p edges)
+  told = subst (λ (ns : List ℕ). AreAt edges ns (leaving p edges)) (sym listed) (picked_are_at (λ e. e.from == p) edges 0 edges refl)
+
+  abbrev edge_there : ℕ → Type 0
+  edge_there i = (e : Arc) × (slice_get edges i ≡ Some e) × (slice_get (leaving p edges) k ≡ Some e)
+
+  there : k < length numbers → edge_there (slice_index_or numbers k 0)
+  there lt = edge_at_number edges numbers (leaving p edges) k (slice_index_or numbers k 0) told (slice_get-get_or numbers k 0 lt)
+
+  -- each number is that of an edge
+  pub number_within : k < length numbers → slice_index_or numbers k 0 < length edges
+  number_within lt = let h = there lt in slice_get_within edges (slice_index_or numbers k 0) h.0 h.1
+
+  -- the edge at the number in place k is that in place k of those that leave the point
+  pub leaving_there : (e : Arc) → k < length numbers → slice_get edges (slice_index_or numbers k 0) ≡ Some e → slice_get (leaving p edges) k ≡ Some e
+  leaving_there e lt at = let h = there lt in h.2 ∙ sym h.1 ∙ at
+
+  pub leaving_done : length numbers ≤ k → length (leaving p edges) ≤ k
+  leaving_done le = let long = numbers_long edges numbers (leaving p edges) told in omega arith
 
 -- ---- the numbers of one item more
 

@@ -113,7 +113,8 @@ impl Graph {
     /// The numbers of the edges that leave a point, in order.
     pub fn leaving(&self, p: u32) -> &[u32]
         requires { p < length self.now.points }
-        ensures { result.now ≡ numbers_leaving p self.now.edges }
+        ensures numbers { result.now ≡ numbers_leaving p self.now.edges }
+        ensures kept { IsGraph self.now }
     {
         self.leaving.as_slice()[p as usize].as_slice()
     }
@@ -121,7 +122,8 @@ impl Graph {
     /// The numbers of the edges that enter a point, in order.
     pub fn entering(&self, p: u32) -> &[u32]
         requires { p < length self.now.points }
-        ensures { result.now ≡ numbers_entering p self.now.edges }
+        ensures numbers { result.now ≡ numbers_entering p self.now.edges }
+        ensures kept { IsGraph self.now }
     {
         self.entering.as_slice()[p as usize].as_slice()
     }
