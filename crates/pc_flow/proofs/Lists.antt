@@ -1,5 +1,5 @@
 -- What holds of each item of a list, and members.
-use Rattle.std.proofs.Common.{◌≡◌, ap, ◌∙◌, List, [], ◌∷◌, ◌++◌, refl, sym, subst, inl, inr}
+use Rattle.std.proofs.Common.{◌≡◌, ap, ◌∙◌, List, [], ◌∷◌, ◌++◌, refl, sym, subst, inl, inr, ℕ, zero, suc, slice_get, Some}
 use Rattle.std.specs.Prelude.{◌⊎◌}
 use Rattle.std.specs.List.{AllByRecursion as Each}
 use Rattle.pc_flow.specs.Lists.{In}
@@ -14,6 +14,12 @@ each_at P (y ∷ ys) x h (inr m) = each_at P ys x h.1 m
 pub each_of_members : {A : Type 0} (P : A → Type 0) (xs : List A) → ((x : A) → In x xs → P x) → Each P xs
 each_of_members P [] f = tt
 each_of_members P (x ∷ xs) f = (f x (inl refl), each_of_members P xs (λ y m. f y (inr m)))
+
+-- and of the item at a place
+pub each_got : {A : Type 0} (P : A → Type 0) (xs : List A) (i : ℕ) (x : A) → Each P xs → slice_get xs i ≡ Some x → P x
+each_got P [] i x h got = absurd (cc)
+each_got P (y ∷ ys) zero x h got = let same : y ≡ x = cc in subst P same h.0
+each_got P (y ∷ ys) (suc i) x h got = each_got P ys i x h.1 got
 
 pub each_more : {A : Type 0} (P Q : A → Type 0) → ((x : A) → P x → Q x) → (xs : List A) → Each P xs → Each Q xs
 each_more P Q f [] h = tt

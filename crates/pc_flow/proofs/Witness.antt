@@ -10,7 +10,7 @@ use Rattle.pc_language.specs.Ends.{end_of}
 use Rattle.pc_rows.specs.Linear.{State}
 use Rattle.pc_flow.specs.Arc.{What, Enter, Test, Set, Check, Arc, IsFit}
 use Rattle.pc_flow.specs.Carry.{back, back_all, owes, HasVariable}
-use Rattle.pc_flow.specs.Exact.{Annotation, NoRows, StraightEdge, StraightNeed, BrokenHasWalk, OwedIsNeeded}
+use Rattle.pc_flow.specs.Exact.{PointRows, NoRows, StraightEdge, StraightNeed, BrokenHasWalk, OwedIsNeeded}
 use Rattle.pc_flow.specs.Flow.{Flow}
 use Rattle.pc_flow.specs.Lists.{In}
 use Rattle.pc_flow.specs.Walk.{Pass, Keeps, Walk, entered, Breaks}
@@ -77,7 +77,7 @@ one_breaks s (r ∷ rows) bad = by (λ h. one_breaks s rows h) (all_or_not (r �
     by go (inl m) = more (go (λ h. bad (m.0, h)))
     by go (inr no_m) = (r, inl refl, (λ m. no_m (m, tt)))
 
-module _ (g : Flow) (a : Annotation) (s : State) (need : StraightNeed g a) where
+module _ (g : Flow) (a : PointRows) (s : State) (need : StraightNeed g a) where
   abbrev points : ℕ
   points = length g.points
 

@@ -1,5 +1,5 @@
 -- Edges, as contracts see them.
-use Rattle.std.specs.Prelude.{ℕ, ◌<◌, ◌≤◌, ◌≤ℤ◌, length}
+use Rattle.std.specs.Prelude.{ℕ, ◌<◌, ◌≤◌, ◌≤ℤ◌, Bool, false, length}
 use Rattle.pc_language.specs.declared.choice.Bound.{Bound}
 use Rattle.pc_language.specs.Ends.{end_of}
 use Rattle.pc_rows.specs.declared.row.TheConstants.{VARIABLES}
@@ -8,14 +8,19 @@ pub use Rattle.pc_flow.specs.declared.what.What.{What}
 pub use Rattle.pc_flow.specs.declared.what.What.TheVariants.{Enter, Test, Set, Check}
 use Rattle.pc_flow.specs.declared.what.TheConstants.{TEST_ROWS}
 
--- an edge: the points that it leads from and to, what it asks and does
+-- an edge: the points that it leads from and to, what it asks and does, and whether it leads from a head into its loop's body
 pub record Arc : Type 0 where
   pub from : ℕ
   pub to : ℕ
   pub what : What
+  pub body : Bool
 
+abbrev pub marked : Bool → ℕ → ℕ → What → Arc
+marked b p q w = record { from = p; to = q; what = w; body = b }
+
+-- an edge that leads into no body
 abbrev pub arc : ℕ → ℕ → What → Arc
-arc p q w = record { from = p; to = q; what = w }
+arc p q w = marked false p q w
 
 -- the ends of a choice are in range and in order
 pub record BoundsFit (lo hi : Bound) : Type 0 where

@@ -1,5 +1,5 @@
 -- Rows that are carried back over an edge, and what an edge owes.
-use Rattle.std.specs.Prelude.{◌<◌, Some, List, [], ◌∷◌, ◌++◌, length}
+use Rattle.std.specs.Prelude.{◌≡◌, ◌<◌, List, [], ◌∷◌, ◌++◌, map, length}
 use Rattle.pc_rows.specs.Linear.{Linear, Meets, MeetsAll, first_of}
 use Rattle.pc_rows.specs.Substitution.{substituted, SubstituteFits}
 use Rattle.pc_language.specs.Ends.{end_of}
@@ -38,6 +38,21 @@ test_rows (Test rows) = rows
 test_rows (Enter params) = []
 test_rows (Set x form lo hi) = []
 test_rows (Check rows) = []
+
+-- the premises of a proof over the edge: the rows of the point that it leaves, and then those of its test
+abbrev pub premises : What → List Linear → List Linear
+premises w rows = rows ++ test_rows w
+
+-- the rows that an edge has to show for the rows at its target, before they are carried back: an assertion its own first
+abbrev pub asked : What → List Linear → List Linear
+asked (Check own) rows = own ++ rows
+asked (Enter params) rows = rows
+asked (Test own) rows = rows
+asked (Set x form lo hi) rows = rows
+
+-- what an edge owes are the rows that it has to show, carried back
+abbrev pub OwedIsAsked : Type 0
+OwedIsAsked = (w : What) (rows : List Linear) → owes w rows ≡ map (back w) (asked w rows)
 
 -- a state may pass the edge
 abbrev pub Admits : What → State → Type 0

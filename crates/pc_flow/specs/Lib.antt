@@ -1,5 +1,7 @@
 pub mod Lists
 pub mod Arc
+pub mod Annotation
+pub mod Incidence
 pub mod Flow
 pub mod Shape
 pub mod Walk

@@ -33,7 +33,6 @@ pub record IsGraph (g : Flow) : Type 0 where
   -- no more points than edges and one
   pub points : length g.points ≤ length g.edges + 1
   pub edges : length g.edges ≤ EDGES
-  pub bodies : length g.bodies ≡ length g.edges
   -- what loops try is over the variables
   pub tried : Each (λ point. Each (IsOver g.variables) point.tried) g.points
   -- edge 0 leads from the entry to the start, no other edge leaves the entry, and the entry is no head

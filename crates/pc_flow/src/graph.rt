@@ -1,13 +1,16 @@
 //! Graphs.
 
-ghost use Rattle.std.specs.Prelude.{◌≡◌, ◌<◌, length, slice_get, Some, IfSome};
+ghost use Rattle.std.specs.Prelude.{◌≡◌, ◌<◌, length, slice_get, Some, IfOk, IfSome};
+ghost use Rattle.pc_flow.specs.Incidence.{numbers_entering, numbers_leaving};
 ghost use Rattle.pc_flow.specs.Shape.{IsGraph};
 
 use crate::edge::Edge;
+use crate::incidence::{End, numbers};
 use crate::point::PointInfo;
 use pc_rows::Rows;
-use pc_text::Place;
+use pc_text::{NoMemory, Place};
 use sqlite_items::Items;
+use std::alloc::Global;
 use std::marker::Model;
 
 /// Points and edges. Both are numbered, from 0 on: point 0 is the entry, from which edge 0 alone leads, to point 1. Every
@@ -18,38 +21,45 @@ pub struct Graph {
     variables: u32,
     points: Items<PointInfo>,
     edges: Items<Edge>,
-    bodies: Items<bool>,
+    // for each point the numbers of the edges that leave it, and of those that enter it
+    leaving: Items<Items<u32>>,
+    entering: Items<Items<u32>>,
 }
 
 impl Model for Graph {
     ghost use Rattle.pc_flow.specs.Flow.{Flow};
+    ghost use Rattle.pc_flow.specs.Incidence.{AreListed};
     ghost use Rattle.pc_flow.specs.Shape.{IsGraph};
 
     ghost Value = { Flow };
 
-    ghost view = { λ g. record { params = g.params; variables = g.variables; points = g.points; edges = g.edges; bodies = g.bodies } };
+    ghost view = { λ g. record { params = g.params; variables = g.variables; points = g.points; edges = g.edges } };
 
-    ghost invariant = { λ g. IsGraph (record { params = g.params; variables = g.variables; points = g.points; edges = g.edges; bodies = g.bodies }) };
+    ghost invariant = { λ g. IsGraph (record { params = g.params; variables = g.variables; points = g.points; edges = g.edges }) × AreListed g.points g.edges g.leaving g.entering };
 }
 
 impl Graph {
+    /// A graph of these parts. The edges at each point are listed once, here.
     pub fn new(
+        alloc: Global,
         params: u32,
         variables: u32,
         points: Items<PointInfo>,
         edges: Items<Edge>,
-        bodies: Items<bool>,
-    ) -> Graph
-        requires { IsGraph (record { params = params; variables = variables; points = points; edges = edges; bodies = bodies }) }
-        ensures { result ≡ record { params = params; variables = variables; points = points; edges = edges; bodies = bodies } }
+    ) -> Result<Graph, NoMemory>
+        requires { IsGraph (record { params = params; variables = variables; points = points; edges = edges }) }
+        ensures { IfOk result (λ g. g ≡ record { params = params; variables = variables; points = points; edges = edges }) }
     {
-        Graph {
+        let leaving = numbers(alloc, End::Source, points.len(), edges.as_slice())?;
+        let entering = numbers(alloc, End::Target, points.len(), edges.as_slice())?;
+        Ok(Graph {
             params,
             variables,
             points,
             edges,
-            bodies,
-        }
+            leaving,
+            entering,
+        })
     }
 
     /// How many points there are.
@@ -95,9 +105,27 @@ impl Graph {
     /// Whether an edge leads from a head into the body of its loop.
     pub fn is_body(&self, i: u32) -> bool
         requires { i < length self.now.edges }
-        ensures { slice_get self.now.bodies i ≡ Some result }
+        ensures { IfSome (slice_get self.now.edges i) (λ e. result ≡ e.body) }
     {
-        self.bodies.as_slice()[i as usize]
+        self.edge(i).body
+    }
+
+    /// The numbers of the edges that leave a point, in order.
+    pub fn leaving(&self, p: u32) -> &[u32]
+        requires { p < length self.now.points }
+        ensures numbers { result.now ≡ numbers_leaving p self.now.edges }
+        ensures kept { IsGraph self.now }
+    {
+        self.leaving.as_slice()[p as usize].as_slice()
+    }
+
+    /// The numbers of the edges that enter a point, in order.
+    pub fn entering(&self, p: u32) -> &[u32]
+        requires { p < length self.now.points }
+        ensures numbers { result.now ≡ numbers_entering p self.now.edges }
+        ensures kept { IsGraph self.now }
+    {
+        self.entering.as_slice()[p as usize].as_slice()
     }
 
     /// Whether a point is the head of a loop.

@@ -1,11 +1,22 @@
 //! What graphs promise of walks and rows, as contracts of functions that do nothing.
 
-ghost use Rattle.pc_flow.specs.Carry.{CarryingIsExact, OwedIsEnough};
+ghost use Rattle.pc_flow.specs.Carry.{CarryingIsExact, OwedIsAsked, OwedIsEnough};
 ghost use Rattle.pc_flow.specs.Exact.{PaidIsSafe, BrokenHasWalk, OwedIsNeeded};
+ghost use Rattle.pc_flow.specs.Incidence.{NumbersAreTheirs};
 
 /// A state meets a row carried back over an edge exactly where all its successors meet the row.
 pub fn carrying_is_exact()
     ensures { CarryingIsExact }
+{}
+
+/// What an edge owes are the rows that it has to show, carried back.
+pub fn owed_is_asked()
+    ensures { OwedIsAsked }
+{}
+
+/// The numbers at a point are those of the edges that leave it and that enter it.
+pub fn numbers_are_theirs()
+    ensures { NumbersAreTheirs }
 {}
 
 /// Who meets what an edge owes keeps its assertion, and his successors meet the rows at its target.

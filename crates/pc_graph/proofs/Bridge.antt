@@ -15,7 +15,8 @@ use Rattle.pc_program.specs.declared.program.Program.{Program}
 use Rattle.pc_program.specs.declared.tree.Stmt.{Stmt}
 use Rattle.pc_program.proofs.Results.{and_is}
 use Rattle.pc_program.proofs.Stmts.{by_stmt, all_by}
-use Rattle.pc_flow.specs.Arc.{Enter, Test, Arc, arc}
+use Rattle.pc_flow.specs.Arc.{Arc, arc}
+use Rattle.pc_flow.specs.declared.what.What.TheVariants.{Enter, Test}
 use Rattle.pc_graph.specs.Corresponds.{IsNoStep, IsStep, RunsHaveWalks, WalksHaveRuns, SameSteps, StepsCorrespond}
 use Rattle.pc_flow.specs.Lists.{In}
 use Rattle.pc_graph.specs.Lowering.{graph, made, no_steps}

@@ -15,7 +15,8 @@ use Rattle.pc_program.specs.declared.tree.Test.TheVariants as test
 use Rattle.pc_program.specs.declared.tree.Stmt.{Stmt, fold-roll-Stmt}
 use Rattle.pc_program.specs.declared.tree.Stmt.TheOpen as stmt
 use Rattle.pc_program.proofs.Stmts.{by_stmt, all_by}
-use Rattle.pc_flow.specs.Arc.{Test, Check, arc}
+use Rattle.pc_flow.specs.Arc.{arc}
+use Rattle.pc_flow.specs.declared.what.What.TheVariants.{Test, Check}
 use Rattle.pc_graph.specs.Lowering.{Rule, one, tests, join_edges, assigned, rule, rule_step, rules}
 use Rattle.pc_graph.specs.Ways.{is_lone, apart, ways_of, ways}
 use Rattle.pc_graph.proofs.Unrolled.{rule-if, rule-while}
@@ -48,9 +49,9 @@ ways_counted : (t : Condition) → length (ways t true) + length (ways t false) 
 ways_counted test.Any = refl
 ways_counted (test.All cs) = ways_of_counted (is_lone cs) (rows_all cs) ∙ ap (λ n. 1 + n) (rows_counted cs)
 
-pub tests-length : (p q : ℕ) (ws : List (List Linear)) → length (tests p q ws) ≡ length ws
-tests-length p q [] = refl
-tests-length p q (w ∷ ws) = let h = tests-length p q ws in omega arith
+pub tests-length : (b : Bool) (p q : ℕ) (ws : List (List Linear)) → length (tests b p q ws) ≡ length ws
+tests-length b p q [] = refl
+tests-length b p q (w ∷ ws) = let h = tests-length b p q ws in omega arith
 
 abbrev CountedBy : ℕ → Rule → Type 0
 CountedBy k l = (p n : ℕ) → length (l p n).edges ≡ k
@@ -74,13 +75,13 @@ split_counted : (place : Place) (t : Condition) (xs ys : List Stmt) (j k : ℕ) 
 split_counted place t xs ys j k hx hy p n =
     let a = rules xs n (n + 1) in
     let b = rules ys a.next (a.next + 1) in
-    let trues = tests p n (ways t true) in
-    let falses = tests p a.next (ways t false) in
+    let trues = tests false p n (ways t true) in
+    let falses = tests false p a.next (ways t false) in
     let ends = join_edges a.last b.last b.next in
     let h1 = hx n (n + 1) in
     let h2 = hy a.next (a.next + 1) in
-    let e1 = tests-length p n (ways t true) in
-    let e2 = tests-length p a.next (ways t false) in
+    let e1 = tests-length false p n (ways t true) in
+    let e2 = tests-length false p a.next (ways t false) in
     let c = ways_counted t in
     omega (
       arith,
@@ -94,11 +95,11 @@ loop_counted : (place : Place) (t : Condition) (tried : List Compare) (xs : List
     CountedBy (test_edges t + 1 + j) (rule_step (stmt.While place t tried (map rule xs)))
 loop_counted place t tried xs j hx p n =
     let a = rules xs n (n + 1) in
-    let trues = tests p n (ways t true) in
-    let falses = tests p a.next (ways t false) in
+    let trues = tests true p n (ways t true) in
+    let falses = tests false p a.next (ways t false) in
     let h1 = hx n (n + 1) in
-    let e1 = tests-length p n (ways t true) in
-    let e2 = tests-length p a.next (ways t false) in
+    let e1 = tests-length true p n (ways t true) in
+    let e2 = tests-length false p a.next (ways t false) in
     let c = ways_counted t in
     omega (arith, length-append trues (a.edges ++ (arc a.last p (Test []) ∷ falses)), length-append a.edges (arc a.last p (Test []) ∷ falses))
 

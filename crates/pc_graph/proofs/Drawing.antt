@@ -13,7 +13,8 @@ use Rattle.pc_program.specs.declared.tree.Stmt.{Stmt}
 use Rattle.pc_program.specs.declared.tree.Stmt.TheVariants.{If, While, rolls-If, rolls-While}
 use Rattle.pc_program.specs.declared.tree.Stmt.TheOpen as stmt
 use Rattle.pc_program.proofs.Results.{and_is}
-use Rattle.pc_flow.specs.Arc.{Test, arc}
+use Rattle.pc_flow.specs.Arc.{marked}
+use Rattle.pc_flow.specs.declared.what.What.TheVariants.{Test}
 use Rattle.pc_graph.specs.Drawn.{Drawn, extended, with_edge, with_tests, branched, joined_at, turned, headed}
 use Rattle.pc_graph.specs.Lowering.{rule, rule_step, rules}
 use Rattle.pc_graph.specs.Ways.{apart, ways}
@@ -30,7 +31,7 @@ pub rows_fit_next : (rows : List Linear) (i : ℕ) (r : Linear) → slice_get ro
 rows_fit_next rows i r e h = (and_is (row_fits r) (list_all row_fits (drop (i + 1) rows)) (sym (ap (list_all row_fits) (drop_got rows i r e)) ∙ h)).1
 
 pub spread_next : (p q : ℕ) (rows alone : List Linear) (i : ℕ) (r row : Linear) (body : Bool) (g h : Drawn) → slice_get rows i ≡ Some r → row ≡ negation r → alone ≡ row ∷ [] →
-    h ≡ with_edge (arc p q (Test alone)) body g → with_tests p q (apart (drop (i + 1) rows)) body h ≡ with_tests p q (apart (drop i rows)) body g
+    h ≡ with_edge (marked body p q (Test alone)) g → with_tests p q (apart (drop (i + 1) rows)) body h ≡ with_tests p q (apart (drop i rows)) body g
 spread_next p q rows alone i r row body g h e neg one made = rw (made, one, neg, drop_got rows i r e) (simp append_assoc)
 
 -- ---- statements

@@ -1,5 +1,5 @@
 -- The graph of a program keeps what every graph keeps.
-use Rattle.std.proofs.Common.{◌≡◌, ◌≢◌, ℕ, ◌+◌, ◌<◌, ◌≤◌, ◌^◌, zero, suc, List, [], ◌∷◌, length, Bool, true, false, refl, ap, subst, ◌∙◌, arith, map, inl, inr}
+use Rattle.std.proofs.Common.{◌≡◌, ◌≢◌, ℕ, ◌+◌, ◌<◌, ◌≤◌, ◌^◌, zero, suc, List, [], ◌∷◌, length, true, false, refl, ap, subst, ◌∙◌, arith, map, inl, inr}
 use Rattle.std.specs.Prelude.{◌⊎◌, ◌&&◌, ◌==◌, nat_le, sum}
 use Rattle.std.specs.List.{AllByRecursion as Each, list_any}
 use Rattle.std.proofs.lemmas.Bool.Decides.{nat_tests}
@@ -96,7 +96,6 @@ graph_kept p =
       variables = k.variables;
       points = omega arith;
       edges = omega arith;
-      bodies = ap suc f.bodies;
       tried = points_over v a.loops 0 places (each_more (IsLoop v) (λ l. Each (IsOver v) l.tried) (λ l h. h.over) a.loops f.loops);
       enters = refl;
       alone = each_more (IsUp v a.next a.loops) (λ e. e.from ≢ 0) (λ e up h. let away = up.away in omega arith) a.edges (f.edges a.next a.loops (omega arith) (each_in a.loops));
@@ -128,15 +127,15 @@ places_few p list params d g e ed made_by =
     let count = all_counted p.body 1 2 in
     rw (made_by, ed, e) (omega arith)
 
-abbrev flow_of : ℕ → ℕ → List PointInfo → List Arc → List Bool → Flow
-flow_of params variables points edges bodies = record { params = params; variables = variables; points = points; edges = edges; bodies = bodies }
+abbrev flow_of : ℕ → ℕ → List PointInfo → List Arc → Flow
+flow_of params variables points edges = record { params = params; variables = variables; points = points; edges = edges }
 
 -- the parts that the code puts together are those of the graph
-pub graph_made : (p : Program) (list : List Stmt) (d g : Drawn) (params variables : ℕ) (loops : List Loop) (places : List Place) (points : List PointInfo) (edges : List Arc) (bodies : List Bool) →
+pub graph_made : (p : Program) (list : List Stmt) (d g : Drawn) (params variables : ℕ) (loops : List Loop) (places : List Place) (points : List PointInfo) (edges : List Arc) →
     list ≡ p.body → params ≡ p.names.params → variables ≡ length p.names.names → d ≡ entered p.place params → g ≡ extended d (rules list d.at d.next) →
-    loops ≡ g.loops → places ≡ g.places → edges ≡ g.edges → bodies ≡ g.bodies → points ≡ points_from loops 0 places →
-    ◌≡◌ {A = Flow} (record { params = params; variables = variables; points = points; edges = edges; bodies = bodies }) (graph p)
-graph_made p list d g params variables loops places points edges bodies e1 e2 e3 ed made_by el ep ee eb e4 =
+    loops ≡ g.loops → places ≡ g.places → edges ≡ g.edges → points ≡ points_from loops 0 places →
+    ◌≡◌ {A = Flow} (record { params = params; variables = variables; points = points; edges = edges }) (graph p)
+graph_made p list d g params variables loops places points edges e1 e2 e3 ed made_by el ep ee e4 =
     let n = p.names.params in
     let v = length p.names.names in
     let all = extended (entered p.place n) (rules p.body 1 2) in
@@ -144,6 +143,5 @@ graph_made p list d g params variables loops places points edges bodies e1 e2 e3
     ap (λ (k : ℕ). extended (entered p.place k) (rules p.body 1 2)) e2 in
     let ps : points ≡ (graph p).points =
     e4 ∙ ap (λ (z : List Loop). points_from z 0 places) (el ∙ ap (λ (z : Drawn). z.loops) whole) ∙ ap (λ (z : List Place). points_from all.loops 0 z) (ep ∙ ap (λ (z : Drawn). z.places) whole) in
-    ap (λ (k : ℕ). flow_of k variables points edges bodies) e2 ∙ ap (λ (k : ℕ). flow_of n k points edges bodies) e3 ∙ ap (λ (z : List PointInfo). flow_of n v z edges bodies) ps ∙
-    ap (λ (z : List Arc). flow_of n v (graph p).points z bodies) (ee ∙ ap (λ (z : Drawn). z.edges) whole) ∙
-    ap (λ (z : List Bool). flow_of n v (graph p).points (graph p).edges z) (eb ∙ ap (λ (z : Drawn). z.bodies) whole)
+    ap (λ (k : ℕ). flow_of k variables points edges) e2 ∙ ap (λ (k : ℕ). flow_of n k points edges) e3 ∙ ap (λ (z : List PointInfo). flow_of n v z edges) ps ∙
+    ap (λ (z : List Arc). flow_of n v (graph p).points z) (ee ∙ ap (λ (z : Drawn). z.edges) whole)

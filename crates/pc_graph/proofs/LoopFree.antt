@@ -9,7 +9,7 @@ use Rattle.pc_program.specs.declared.tree.Stmt.{Stmt, fold-roll-Stmt}
 use Rattle.pc_program.specs.declared.tree.Stmt.TheOpen as stmt
 use Rattle.pc_program.proofs.Stmts.{by_stmt, all_by}
 use Rattle.pc_graph.specs.declared.draft.Loop.{Loop}
-use Rattle.pc_flow.specs.Arc.{Test, Check}
+use Rattle.pc_flow.specs.declared.what.What.TheVariants.{Test, Check}
 use Rattle.pc_graph.specs.Lowering.{Rule, one, assigned, rule, rule_step, rules, made, points_from}
 use Rattle.pc_graph.specs.Straight.{LoopFreeGraphs}
 use Rattle.pc_graph.proofs.Unrolled.{rule-if}

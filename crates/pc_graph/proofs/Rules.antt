@@ -22,7 +22,8 @@ use Rattle.pc_program.specs.declared.tree.Right.{Right}
 use Rattle.pc_program.specs.declared.tree.Test.{Test as Condition}
 use Rattle.pc_program.specs.declared.tree.Stmt.{Stmt, roll-Stmt, fold-roll-Stmt}
 use Rattle.pc_program.specs.declared.tree.Stmt.TheOpen as stmt
-use Rattle.pc_flow.specs.Arc.{Test, Check, Arc, arc}
+use Rattle.pc_flow.specs.Arc.{Arc, arc}
+use Rattle.pc_flow.specs.declared.what.What.TheVariants.{Test, Check}
 use Rattle.pc_graph.specs.Corresponds.{IsNoStep}
 use Rattle.pc_flow.specs.Lists.{In}
 use Rattle.pc_graph.specs.Lowering.{Piece, Rule, one, tests, join_edges, split, loop, low_end, high_end, assigned, rule, rule_step, rules}
@@ -169,10 +170,10 @@ module _ (vars : ℕ) (g : List Arc) (ρ : ℕ → List Stmt) (js : List Arc) wh
   -- ---- two blocks
 
   -- a choice has an edge of its side
-  side_fired : (t : Condition) (p q u : ℕ) (k l : List Stmt) (s : State) (c : ℤ) → sane_test vars t ≡ true → ρ q ≡ k → ρ u ≡ l →
-      Each (λ e. In e g) (tests p q (ways t true)) → Each (λ e. In e g) (tests p u (ways t false)) → (b : Bool) → chosen t s c ≡ b → Fired g ρ p s (Going (cond b k l) s)
-  side_fired t p q u k l s c ok eq eu ins ins' true h = tests_fire g ρ p q (ways t true) k s eq ins (ways_complete vars t true s c ok h)
-  side_fired t p q u k l s c ok eq eu ins ins' false h = tests_fire g ρ p u (ways t false) l s eu ins' (ways_complete vars t false s c ok h)
+  side_fired : (t : Condition) (b : Bool) (p q u : ℕ) (k l : List Stmt) (s : State) (c : ℤ) → sane_test vars t ≡ true → ρ q ≡ k → ρ u ≡ l →
+      Each (λ e. In e g) (tests b p q (ways t true)) → Each (λ e. In e g) (tests false p u (ways t false)) → (side : Bool) → chosen t s c ≡ side → Fired g ρ p s (Going (cond side k l) s)
+  side_fired t b p q u k l s c ok eq eu ins ins' true h = tests_fire g ρ b p q (ways t true) k s eq ins (ways_complete vars t true s c ok h)
+  side_fired t b p q u k l s c ok eq eu ins ins' false h = tests_fire g ρ false p u (ways t false) l s eu ins' (ways_complete vars t false s c ok h)
 
   -- what an edge of a side passes has a choice
   side_chosen : (t : Condition) (b : Bool) (x k l : List Stmt) (s : State) → sane_test vars t ≡ true → ((c : ℤ) → step x s c ≡ Going (cond (chosen t s c) k l) s) →
@@ -201,8 +202,8 @@ module _ (vars : ℕ) (g : List Arc) (ρ : ℕ → List Stmt) (js : List Arc) wh
         let IsIn = λ (e : Arc). In e g in
         let ok = and_is (sane_test vars t) (sane_stmts vars xs && sane_stmts vars ys) s in
         let ok2 = and_is (sane_stmts vars xs) (sane_stmts vars ys) ok.1 in
-        let trues = tests p n (ways t true) in
-        let falses = tests p first.next (ways t false) in
+        let trues = tests false p n (ways t true) in
+        let falses = tests false p first.next (ways t false) in
         let ends = join_edges first.last second.last second.next in
         let in_trues = each_left IsIn trues (first.edges ++ (falses ++ (second.edges ++ ends))) ins in
         let ins1 = each_right IsIn trues (first.edges ++ (falses ++ (second.edges ++ ends))) ins in
@@ -235,14 +236,14 @@ module _ (vars : ℕ) (g : List Arc) (ρ : ℕ → List Stmt) (js : List Arc) wh
           last = pos_j;
           rest = hold3.0;
           begins = λ sim. fires_at g ρ p here e (λ s c. subst (Fired g ρ p s) (sym (steps s c))
-              (side_fired t p n first.next (xs ++ k) (ys ++ k) s c ok.0 hold.0 hold2.0 in_trues in_falses (chosen t s c) refl));
+              (side_fired t false p n first.next (xs ++ k) (ys ++ k) s c ok.0 hold.0 hold2.0 in_trues in_falses (chosen t s c) refl));
           edges = λ sim.
               let Ok = λ (e : Arc). ArcOk ρ js e × Simulates g ρ e.to in
               each_join Ok trues (first.edges ++ (falses ++ (second.edges ++ ends)))
-              (tests_ok g ρ js p n (ways t true) here (xs ++ k) pos_n e hold.0 (a.begins (end_x sim)) (λ s. side_chosen t true here (xs ++ k) (ys ++ k) s ok.0 (steps s)))
+              (tests_ok g ρ js false p n (ways t true) here (xs ++ k) pos_n e hold.0 (a.begins (end_x sim)) (λ s. side_chosen t true here (xs ++ k) (ys ++ k) s ok.0 (steps s)))
               (each_join Ok first.edges (falses ++ (second.edges ++ ends)) (a.edges (end_x sim))
               (each_join Ok falses (second.edges ++ ends)
-              (tests_ok g ρ js p first.next (ways t false) here (ys ++ k) pos_u e hold2.0 (b.begins (end_y sim)) (λ s. side_chosen t false here (xs ++ k) (ys ++ k) s ok.0 (steps s)))
+              (tests_ok g ρ js false p first.next (ways t false) here (ys ++ k) pos_u e hold2.0 (b.begins (end_y sim)) (λ s. side_chosen t false here (xs ++ k) (ys ++ k) s ok.0 (steps s)))
               (each_join Ok second.edges ends (b.edges (end_y sim))
               (join_ok g ρ js first.last second.next pos_j j_ends.0 sim, (join_ok g ρ js second.last second.next pos_j j_ends.1.0 sim, tt)))));
           skips = each_join (IsNoStep ρ) first.joins (second.joins ++ ends) a.skips (each_join (IsNoStep ρ) second.joins ends b.skips
@@ -273,8 +274,8 @@ module _ (vars : ℕ) (g : List Arc) (ρ : ℕ → List Stmt) (js : List Arc) wh
         let IsIn = λ (e : Arc). In e g in
         let ok = and_is (sane_test vars t) (sane_each vars tried && sane_stmts vars xs) s in
         let ok2 = and_is (sane_each vars tried) (sane_stmts vars xs) ok.1 in
-        let trues = tests p n (ways t true) in
-        let falses = tests p body.next (ways t false) in
+        let trues = tests true p n (ways t true) in
+        let falses = tests false p body.next (ways t false) in
         let back = arc body.last p (Test []) in
         let in_trues = each_left IsIn trues (body.edges ++ (back ∷ falses)) ins in
         let ins1 = each_right IsIn trues (body.edges ++ (back ∷ falses)) ins in
@@ -286,7 +287,7 @@ module _ (vars : ℕ) (g : List Arc) (ρ : ℕ → List Stmt) (js : List Arc) wh
         let hold2 = holds_right ρ (n + 1) body.next (rests_of xs again) (k ∷ []) a_next hold.1 in
         let pos_x : 0 < body.next = omega arith in
         let head = fires_at g ρ p again e (λ s c. subst (Fired g ρ p s) (sym (step-while place t tried xs k s c))
-        (side_fired t p n body.next (xs ++ again) k s c ok.0 hold.0 hold2.0 in_trues ins2.1 (chosen t s c) refl)) in
+        (side_fired t true p n body.next (xs ++ again) k s c ok.0 hold.0 hold2.0 in_trues ins2.1 (chosen t s c) refl)) in
         let turn = joins p ins2.0 (a.rest ∙ sym e) head in
         record {
           next = omega (arith, length-append (rests_of xs again) (k ∷ []));
@@ -296,10 +297,10 @@ module _ (vars : ℕ) (g : List Arc) (ρ : ℕ → List Stmt) (js : List Arc) wh
           edges = λ sim.
               let Ok = λ (e : Arc). ArcOk ρ js e × Simulates g ρ e.to in
               each_join Ok trues (body.edges ++ (back ∷ falses))
-              (tests_ok g ρ js p n (ways t true) again (xs ++ again) pos_n e hold.0 (a.begins turn) (λ s. side_chosen t true again (xs ++ again) k s ok.0 (λ c. step-while place t tried xs k s c)))
+              (tests_ok g ρ js true p n (ways t true) again (xs ++ again) pos_n e hold.0 (a.begins turn) (λ s. side_chosen t true again (xs ++ again) k s ok.0 (λ c. step-while place t tried xs k s c)))
               (each_join Ok body.edges (back ∷ falses) (a.edges turn) (
                 join_ok g ρ js body.last p pos_p jns.0 head,
-                tests_ok g ρ js p body.next (ways t false) again k pos_x e hold2.0 sim (λ s. side_chosen t false again (xs ++ again) k s ok.0 (λ c. step-while place t tried xs k s c)),
+                tests_ok g ρ js false p body.next (ways t false) again k pos_x e hold2.0 sim (λ s. side_chosen t false again (xs ++ again) k s ok.0 (λ c. step-while place t tried xs k s c)),
               ));
           skips = (join_skips ρ body.last p (a.rest ∙ sym e), a.skips);
         }

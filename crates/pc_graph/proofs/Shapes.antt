@@ -18,9 +18,11 @@ use Rattle.pc_program.proofs.Results.{and_is}
 use Rattle.pc_program.proofs.Stmts.{by_stmt, all_by}
 use Rattle.pc_graph.specs.declared.draft.Loop.{Loop}
 use Rattle.pc_flow.specs.declared.what.TheConstants.{TEST_ROWS}
-use Rattle.pc_flow.specs.Arc.{What, Test, Check, Arc, arc, IsFit}
+use Rattle.pc_flow.specs.Arc.{Arc, arc, IsFit}
+use Rattle.pc_flow.specs.declared.what.What.{What}
+use Rattle.pc_flow.specs.declared.what.What.TheVariants.{Test, Check}
 use Rattle.pc_flow.specs.Lists.{In}
-use Rattle.pc_graph.specs.Lowering.{Piece, Rule, one, tests, all_alike, join_edges, assigned, rule, rule_step, rules}
+use Rattle.pc_graph.specs.Lowering.{Piece, Rule, one, tests, join_edges, assigned, rule, rule_step, rules}
 use Rattle.pc_flow.specs.Shape.{WhatIsOver}
 use Rattle.pc_graph.specs.Ways.{ways}
 use Rattle.pc_graph.proofs.Limits.{ways_few, test_has, assigned_fits, right_over}
@@ -54,7 +56,6 @@ pub record Shaped (v n : ℕ) (a : Piece) : Type 0 where
   pub away : 0 < a.last
   pub points : a.next ≡ n + length a.places
   pub few : a.next ≤ n + length a.edges
-  pub bodies : length a.bodies ≡ length a.edges
   pub loops : Each (IsLoop v) a.loops
   pub edges : (m : ℕ) (loops : List Loop) → a.next ≤ m → Each (λ l. In l loops) a.loops → Each (IsUp v m loops) a.edges
 
@@ -70,16 +71,12 @@ head_in (k ∷ loops) l (inr m) = or_right (k.head == l.head) (list_any (λ k. k
 -- ---- rules
 
 module _ (v : ℕ) (few : v ≤ VARIABLES) where
-  tests_up : (m : ℕ) (loops : List Loop) (p q : ℕ) (ws : List (List Linear)) → 0 < p → p < q → q < m → Each (λ w. length w ≤ TEST_ROWS) ws → Each (Each (IsOver v)) ws → Each (IsUp v m loops) (tests p q ws)
-  tests_up m loops p q [] a h k f o = tt
-  tests_up m loops p q (w ∷ ws) a h k f o = (record { away = a; leaves = omega arith; reaches = k; rises = inl h; over = o.0; fit = f.0 }, tests_up m loops p q ws a h k f.1 o.1)
+  tests_up : (b : Bool) (m : ℕ) (loops : List Loop) (p q : ℕ) (ws : List (List Linear)) → 0 < p → p < q → q < m → Each (λ w. length w ≤ TEST_ROWS) ws → Each (Each (IsOver v)) ws → Each (IsUp v m loops) (tests b p q ws)
+  tests_up b m loops p q [] a h k f o = tt
+  tests_up b m loops p q (w ∷ ws) a h k f o = (record { away = a; leaves = omega arith; reaches = k; rises = inl h; over = o.0; fit = f.0 }, tests_up b m loops p q ws a h k f.1 o.1)
 
   join_up : (m : ℕ) (loops : List Loop) (p q : ℕ) → 0 < p → p < q → q < m → IsUp v m loops (arc p q (Test []))
   join_up m loops p q a h k = record { away = a; leaves = omega arith; reaches = k; rises = inl h; over = tt; fit = omega arith }
-
-  alike-length : (b : Bool) (ws : List (List Linear)) → length (all_alike b ws) ≡ length ws
-  alike-length b [] = refl
-  alike-length b (w ∷ ws) = let h = alike-length b ws in omega arith
 
   abbrev ShapedBy : Bool → Rule → Type 0
   ShapedBy b l = (p n : ℕ) → b ≡ true → 0 < p → p < n → Shaped v n (l p n)
@@ -92,7 +89,7 @@ module _ (v : ℕ) (few : v ≤ VARIABLES) where
 
   list_shaped : (ss : List Stmt) → Each ShapedOne ss → ShapedBy (sane_stmts v ss) (rules ss)
   list_shaped [] all p n s pos_p h =
-      record { more = omega arith; last = h; away = pos_p; points = omega arith; few = omega arith; bodies = refl; loops = tt; edges = λ m loops le ins. tt }
+      record { more = omega arith; last = h; away = pos_p; points = omega arith; few = omega arith; loops = tt; edges = λ m loops le ins. tt }
   list_shaped (x ∷ ss) all p n s pos_p h =
       let ok = and_is (sane_stmt v x) (sane_stmts v ss) s in
       let a = rule x p n in
@@ -102,18 +99,15 @@ module _ (v : ℕ) (few : v ≤ VARIABLES) where
       let f1 = f.more in
       let f2 = f.points in
       let f3 = f.few in
-      let f4 = f.bodies in
       let r1 = r.more in
       let r2 = r.points in
       let r3 = r.few in
-      let r4 = r.bodies in
       record {
         more = omega arith;
         last = r.last;
         away = r.away;
         points = omega (arith, length-append a.places b.places);
         few = omega (arith, length-append a.edges b.edges);
-        bodies = omega (arith, length-append a.edges b.edges, length-append a.bodies b.bodies);
         loops = each_join (IsLoop v) a.loops b.loops f.loops r.loops;
         edges = λ m loops le ins. each_join (IsUp v m loops) a.edges b.edges (f.edges m loops (omega arith) (each_left (λ l. In l loops) a.loops b.loops ins))
             (r.edges m loops le (each_right (λ l. In l loops) a.loops b.loops ins));
@@ -127,7 +121,6 @@ module _ (v : ℕ) (few : v ≤ VARIABLES) where
         away = omega arith;
         points = omega arith;
         few = omega arith;
-        bodies = refl;
         loops = tt;
         edges = λ m loops le ins. (record { away = pos_p; leaves = omega arith; reaches = omega arith; rises = inl h; over = over; fit = fit }, tt);
       }
@@ -143,21 +136,17 @@ module _ (v : ℕ) (few : v ≤ VARIABLES) where
       let f1 = f.more in
       let f2 = f.points in
       let f3 = f.few in
-      let f4 = f.bodies in
       let f5 = f.last in
       let r = hy a.next (a.next + 1) ok2.1 (omega arith) (omega arith) in
       let r1 = r.more in
       let r2 = r.points in
       let r3 = r.few in
-      let r4 = r.bodies in
       let r5 = r.last in
       let trues = ways t true in
       let falses = ways t false in
       let ends = join_edges a.last b.last b.next in
-      let e1 = tests-length p n trues in
-      let e2 = tests-length p a.next falses in
-      let b1 = alike-length false trues in
-      let b2 = alike-length false falses in
+      let e1 = tests-length false p n trues in
+      let e2 = tests-length false p a.next falses in
       record {
         more = omega arith;
         last = omega arith;
@@ -165,28 +154,17 @@ module _ (v : ℕ) (few : v ≤ VARIABLES) where
         points = omega (arith, length-append a.places (place ∷ (b.places ++ (place ∷ []))), length-append b.places (place ∷ []));
         few = omega (
           arith,
-          length-append (tests p n trues) (a.edges ++ (tests p a.next falses ++ (b.edges ++ ends))),
-          length-append a.edges (tests p a.next falses ++ (b.edges ++ ends)),
-          length-append (tests p a.next falses) (b.edges ++ ends),
+          length-append (tests false p n trues) (a.edges ++ (tests false p a.next falses ++ (b.edges ++ ends))),
+          length-append a.edges (tests false p a.next falses ++ (b.edges ++ ends)),
+          length-append (tests false p a.next falses) (b.edges ++ ends),
           length-append b.edges ends,
           test_has t,
         );
-        bodies = omega (
-          arith,
-          length-append (tests p n trues) (a.edges ++ (tests p a.next falses ++ (b.edges ++ ends))),
-          length-append a.edges (tests p a.next falses ++ (b.edges ++ ends)),
-          length-append (tests p a.next falses) (b.edges ++ ends),
-          length-append b.edges ends,
-          length-append (all_alike false trues) (a.bodies ++ (all_alike false falses ++ (b.bodies ++ all_alike false ends))),
-          length-append a.bodies (all_alike false falses ++ (b.bodies ++ all_alike false ends)),
-          length-append (all_alike false falses) (b.bodies ++ all_alike false ends),
-          length-append b.bodies (all_alike false ends),
-        );
         loops = each_join (IsLoop v) a.loops b.loops f.loops r.loops;
         edges = λ m loops le ins.
-            each_join (IsUp v m loops) (tests p n trues) _ (tests_up m loops p n trues pos_p h (omega arith) (ways_few v t true ok.0) (ways_over v t true ok.0))
+            each_join (IsUp v m loops) (tests false p n trues) _ (tests_up false m loops p n trues pos_p h (omega arith) (ways_few v t true ok.0) (ways_over v t true ok.0))
             (each_join (IsUp v m loops) a.edges _ (f.edges m loops (omega arith) (each_left (λ l. In l loops) a.loops b.loops ins))
-            (each_join (IsUp v m loops) (tests p a.next falses) _ (tests_up m loops p a.next falses pos_p (omega arith) (omega arith) (ways_few v t false ok.0) (ways_over v t false ok.0))
+            (each_join (IsUp v m loops) (tests false p a.next falses) _ (tests_up false m loops p a.next falses pos_p (omega arith) (omega arith) (ways_few v t false ok.0) (ways_over v t false ok.0))
             (each_join (IsUp v m loops) b.edges ends (r.edges m loops (omega arith) (each_right (λ l. In l loops) a.loops b.loops ins))
             (join_up m loops a.last b.next f.away (omega arith) (omega arith), (join_up m loops b.last b.next r.away (omega arith) (omega arith), tt)))));
       }
@@ -201,34 +179,24 @@ module _ (v : ℕ) (few : v ≤ VARIABLES) where
       let f1 = f.more in
       let f2 = f.points in
       let f3 = f.few in
-      let f4 = f.bodies in
       let f5 = f.last in
       let trues = ways t true in
       let falses = ways t false in
       let back = arc a.last p (Test []) in
-      let e1 = tests-length p n trues in
-      let e2 = tests-length p a.next falses in
-      let b1 = alike-length true trues in
-      let b2 = alike-length false falses in
+      let e1 = tests-length true p n trues in
+      let e2 = tests-length false p a.next falses in
       record {
         more = omega arith;
         last = omega arith;
         away = omega arith;
         points = omega (arith, length-append a.places (place ∷ []));
-        few = omega (arith, length-append (tests p n trues) (a.edges ++ (back ∷ tests p a.next falses)), length-append a.edges (back ∷ tests p a.next falses), test_has t);
-        bodies = omega (
-          arith,
-          length-append (tests p n trues) (a.edges ++ (back ∷ tests p a.next falses)),
-          length-append a.edges (back ∷ tests p a.next falses),
-          length-append (all_alike true trues) (a.bodies ++ (false ∷ all_alike false falses)),
-          length-append a.bodies (false ∷ all_alike false falses),
-        );
+        few = omega (arith, length-append (tests true p n trues) (a.edges ++ (back ∷ tests false p a.next falses)), length-append a.edges (back ∷ tests false p a.next falses), test_has t);
         loops = (record { away = pos_p; over = each_over v tried ok2.0 }, f.loops);
         edges = λ m loops le ins.
-            each_join (IsUp v m loops) (tests p n trues) _ (tests_up m loops p n trues pos_p h (omega arith) (ways_few v t true ok.0) (ways_over v t true ok.0))
+            each_join (IsUp v m loops) (tests true p n trues) _ (tests_up true m loops p n trues pos_p h (omega arith) (ways_few v t true ok.0) (ways_over v t true ok.0))
             (each_join (IsUp v m loops) a.edges _ (f.edges m loops (omega arith) ins.1) (
               record { away = f.away; leaves = omega arith; reaches = omega arith; rises = inr (head_in loops (record { head = p; tried = rows_all tried }) ins.0); over = tt; fit = omega arith },
-              tests_up m loops p a.next falses pos_p (omega arith) (omega arith) (ways_few v t false ok.0) (ways_over v t false ok.0),
+              tests_up false m loops p a.next falses pos_p (omega arith) (omega arith) (ways_few v t false ok.0) (ways_over v t false ok.0),
             ));
       }
 

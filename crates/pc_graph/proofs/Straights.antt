@@ -5,7 +5,6 @@ use Rattle.std.specs.List.{AllByRecursion as Each}
 use Rattle.pc_text.specs.declared.place.Place.{Place}
 use Rattle.pc_rows.proofs.Joining.{each_join}
 use Rattle.pc_program.specs.Forms.{rows_all}
-use Rattle.pc_rows.specs.Linear.{State}
 use Rattle.pc_program.specs.declared.tree.Test.{Test as Condition}
 use Rattle.pc_program.specs.declared.tree.Test.TheVariants as test
 use Rattle.pc_program.specs.declared.tree.Stmt.{Stmt, fold-roll-Stmt}
@@ -13,13 +12,12 @@ use Rattle.pc_program.specs.declared.tree.Stmt.TheOpen as stmt
 use Rattle.pc_program.proofs.Results.{and_is}
 use Rattle.pc_program.proofs.Stmts.{by_stmt, all_by}
 use Rattle.pc_graph.specs.declared.draft.Loop.{Loop}
-use Rattle.pc_flow.specs.Arc.{What, Enter, Test, Set, Check, Arc}
-use Rattle.pc_flow.specs.Carry.{HasVariable}
+use Rattle.pc_flow.specs.Arc.{Arc}
+use Rattle.pc_flow.specs.declared.what.What.TheVariants.{Check}
 use Rattle.pc_flow.proofs.Assigning.{has_variable}
 use Rattle.pc_flow.specs.Exact.{NoRows, StraightEdge}
 use Rattle.pc_flow.specs.Lists.{In}
 use Rattle.pc_graph.specs.Lowering.{Piece, Rule, one, join_edges, assigned, rule, rule_step, rules, made, graph}
-use Rattle.pc_flow.specs.Shape.{WhatIsOver}
 use Rattle.pc_graph.specs.Straight.{is_any, straight_step, is_straight, are_straight, StraightGraphs}
 use Rattle.pc_graph.proofs.Graphs.{keeps, made_shape, points-length}
 use Rattle.pc_graph.proofs.Shapes.{HeadIn, IsUp}

@@ -5,7 +5,8 @@ use Rattle.pc_text.specs.declared.place.Place.{Place}
 use Rattle.pc_program.specs.Machine.{Outcome, Going, Violated, Blocked, Ended, step}
 use Rattle.pc_rows.specs.Linear.{State}
 use Rattle.pc_program.specs.declared.tree.Stmt.{Stmt}
-use Rattle.pc_flow.specs.Arc.{Test, Arc, arc}
+use Rattle.pc_flow.specs.Arc.{Arc, arc}
+use Rattle.pc_flow.specs.declared.what.What.TheVariants.{Test}
 use Rattle.pc_graph.specs.Corresponds.{IsNoStep, IsStep}
 use Rattle.pc_flow.specs.Lists.{In}
 use Rattle.pc_graph.specs.Lowering.{Piece}

@@ -1,5 +1,5 @@
 -- No two loops of a program share a head: no two edges lead back to one point.
-use Rattle.std.proofs.Common.{◌≡◌, ℕ, ◌+◌, ◌<◌, ◌≤◌, List, [], ◌∷◌, ◌++◌, true, false, refl, sym, subst, arith, map, inl, inr}
+use Rattle.std.proofs.Common.{◌≡◌, ℕ, ◌+◌, ◌<◌, ◌≤◌, List, [], ◌∷◌, ◌++◌, true, false, refl, sym, subst, arith, map, inl, inr, Bool}
 use Rattle.std.specs.Prelude.{◌⊎◌}
 use Rattle.std.specs.List.{AllByRecursion as Each}
 use Rattle.pc_text.specs.declared.place.Place.{Place}
@@ -11,7 +11,9 @@ use Rattle.pc_program.specs.declared.tree.Test.{Test as Condition}
 use Rattle.pc_program.specs.declared.tree.Stmt.{Stmt, fold-roll-Stmt}
 use Rattle.pc_program.specs.declared.tree.Stmt.TheOpen as stmt
 use Rattle.pc_program.proofs.Stmts.{by_stmt, all_by}
-use Rattle.pc_flow.specs.Arc.{What, Enter, Test, Check, Arc, arc}
+use Rattle.pc_flow.specs.Arc.{Arc, arc}
+use Rattle.pc_flow.specs.declared.what.What.{What}
+use Rattle.pc_flow.specs.declared.what.What.TheVariants.{Enter, Test, Check}
 use Rattle.pc_graph.specs.Lowering.{Piece, Rule, one, tests, join_edges, assigned, rule, rule_step, rules, made}
 use Rattle.pc_flow.specs.Shape.{TurnsApart, NoSharedHead}
 use Rattle.pc_graph.specs.Straight.{LoopsHaveTheirHeads}
@@ -74,9 +76,9 @@ turns_back lo mid hi es fs e to a b h up =
     apart g (inl u) b c = absurd (omega arith)
     apart g (inr k) b c = let k0 = k.0 in λ same. omega arith
 
-tests_up : (p q : ℕ) (ws : List (List Linear)) → p < q → Each (λ e. e.from < e.to) (tests p q ws)
-tests_up p q [] h = tt
-tests_up p q (w ∷ ws) h = (h, tests_up p q ws h)
+tests_up : (b : Bool) (p q : ℕ) (ws : List (List Linear)) → p < q → Each (λ e. e.from < e.to) (tests b p q ws)
+tests_up b p q [] h = tt
+tests_up b p q (w ∷ ws) h = (h, tests_up b p q ws h)
 
 -- ---- rules
 
@@ -124,16 +126,16 @@ split_turned place t xs ys hx hy p n h =
     let r1 = r.more in
     let r2 = r.from in
     let r3 = r.last in
-    let trues = tests p n (ways t true) in
-    let falses = tests p a.next (ways t false) in
+    let trues = tests false p n (ways t true) in
+    let falses = tests false p a.next (ways t false) in
     let ends = join_edges a.last b.last b.next in
     record {
       more = omega arith;
       from = omega arith;
       last = omega arith;
-      turns = turns_join p n b.next trues (a.edges ++ (falses ++ (b.edges ++ ends))) (omega arith) (omega arith) (ups p n trues (tests_up p n (ways t true) h))
+      turns = turns_join p n b.next trues (a.edges ++ (falses ++ (b.edges ++ ends))) (omega arith) (omega arith) (ups p n trues (tests_up false p n (ways t true) h))
           (turns_join n a.last b.next a.edges (falses ++ (b.edges ++ ends)) f2 (omega arith) f.turns
-          (turns_join a.last a.next b.next falses (b.edges ++ ends) (omega arith) (omega arith) (ups a.last a.next falses (tests_up p a.next (ways t false) (omega arith)))
+          (turns_join a.last a.next b.next falses (b.edges ++ ends) (omega arith) (omega arith) (ups a.last a.next falses (tests_up false p a.next (ways t false) (omega arith)))
           (turns_join a.next b.last b.next b.edges ends r2 (omega arith) r.turns (ups b.last b.next ends (omega arith, (r3, tt))))));
     }
 
@@ -145,16 +147,16 @@ loop_turned place t tried xs hx p n h =
     let f1 = f.more in
     let f2 = f.from in
     let f3 = f.last in
-    let trues = tests p n (ways t true) in
-    let falses = tests p a.next (ways t false) in
+    let trues = tests true p n (ways t true) in
+    let falses = tests false p a.next (ways t false) in
     let turns = f.turns in
     let wide : Turns n a.next a.edges = record { back = each_more (BackTo n a.last) (BackTo n a.next) (wider n n a.last a.next (omega arith) (omega arith)) a.edges turns.back; own = turns.own } in
     record {
       more = omega arith;
       from = omega arith;
       last = omega arith;
-      turns = turns_join p p a.next trues (a.edges ++ (arc a.last p (Test []) ∷ falses)) (omega arith) (omega arith) (ups p p trues (tests_up p n (ways t true) h))
-          (turns_back p n a.next a.edges falses (arc a.last p (Test [])) refl h (omega arith) wide (tests_up p a.next (ways t false) (omega arith)));
+      turns = turns_join p p a.next trues (a.edges ++ (arc a.last p (Test []) ∷ falses)) (omega arith) (omega arith) (ups p p trues (tests_up true p n (ways t true) h))
+          (turns_back p n a.next a.edges falses (arc a.last p (Test [])) refl h (omega arith) wide (tests_up false p a.next (ways t false) (omega arith)));
     }
 
 turned : (x : Stmt) → TurnedOne x

@@ -15,7 +15,9 @@ use Rattle.pc_program.specs.declared.tree.Stmt.{Stmt, Stmt-F, fold-Stmt}
 use Rattle.pc_program.specs.declared.tree.Stmt.TheOpen as stmt
 use Rattle.pc_graph.specs.declared.draft.Loop.{Loop}
 use Rattle.pc_flow.specs.declared.point.PointInfo.{PointInfo}
-use Rattle.pc_flow.specs.Arc.{What, Enter, Test, Set, Check, Arc, arc}
+use Rattle.pc_flow.specs.Arc.{Arc, arc, marked}
+use Rattle.pc_flow.specs.declared.what.What.{What}
+use Rattle.pc_flow.specs.declared.what.What.TheVariants.{Enter, Test, Set, Check}
 use Rattle.pc_flow.specs.Flow.{Flow}
 use Rattle.pc_graph.specs.Ways.{ways}
 
@@ -27,8 +29,6 @@ pub record Piece : Type 0 where
   -- the places of the points
   pub places : List Place
   pub edges : List Arc
-  -- of each edge, whether it leads from a head into its loop's body
-  pub bodies : List Bool
   pub loops : List Loop
   -- those of the edges that are no step of the program: to the end of an `if`, and back to a head
   pub joins : List Arc
@@ -45,7 +45,6 @@ one place what p n =
       next = n + 1;
       places = place ∷ [];
       edges = arc p n what ∷ [];
-      bodies = false ∷ [];
       loops = [];
       joins = [];
     }
@@ -58,27 +57,23 @@ after a b =
       next = b.next;
       places = a.places ++ b.places;
       edges = a.edges ++ b.edges;
-      bodies = a.bodies ++ b.bodies;
       loops = a.loops ++ b.loops;
       joins = a.joins ++ b.joins;
     }
 
 -- no statement: the present point stays
 abbrev pub nothing : Rule
-nothing p n = record { last = p; next = n; places = []; edges = []; bodies = []; loops = []; joins = [] }
+nothing p n = record { last = p; next = n; places = []; edges = []; loops = []; joins = [] }
 
 -- statements in order
 abbrev pub in_order : List Rule → Rule
 in_order [] p n = nothing p n
 in_order (rule ∷ rules) p n = after (rule p n) (in_order rules (rule p n).last (rule p n).next)
 
--- an edge for each way of a test
-abbrev pub tests : ℕ → ℕ → List (List Linear) → List Arc
-tests p q [] = []
-tests p q (rows ∷ more) = arc p q (Test rows) ∷ tests p q more
-
-abbrev pub all_alike : {A : Type 0} → Bool → List A → List Bool
-all_alike b xs = map (λ x. b) xs
+-- an edge for each way of a test; `body` says whether they lead from a head into its loop's body
+abbrev pub tests : Bool → ℕ → ℕ → List (List Linear) → List Arc
+tests body p q [] = []
+tests body p q (rows ∷ more) = marked body p q (Test rows) ∷ tests body p q more
 
 -- the edges from the ends of two blocks to the point after them
 abbrev pub join_edges : ℕ → ℕ → ℕ → List Arc
@@ -92,10 +87,9 @@ split place t p n a b =
       last = b.next;
       next = b.next + 1;
       places = place ∷ (a.places ++ (place ∷ (b.places ++ (place ∷ []))));
-      edges = tests p n (ways t true) ++ (a.edges ++ (tests p a.next (ways t false) ++ (b.edges ++ join_edges a.last b.last b.next)));
-      bodies =
-          all_alike false (ways t true) ++
-          (a.bodies ++ (all_alike false (ways t false) ++ (b.bodies ++ all_alike false (join_edges a.last b.last b.next))));
+      edges =
+          tests false p n (ways t true) ++
+          (a.edges ++ (tests false p a.next (ways t false) ++ (b.edges ++ join_edges a.last b.last b.next)));
       loops = a.loops ++ b.loops;
       joins = a.joins ++ (b.joins ++ join_edges a.last b.last b.next);
     }
@@ -107,8 +101,7 @@ loop place t tried p n a =
       last = a.next;
       next = a.next + 1;
       places = place ∷ (a.places ++ (place ∷ []));
-      edges = tests p n (ways t true) ++ (a.edges ++ (arc a.last p (Test []) ∷ tests p a.next (ways t false)));
-      bodies = all_alike true (ways t true) ++ (a.bodies ++ (false ∷ all_alike false (ways t false)));
+      edges = tests true p n (ways t true) ++ (a.edges ++ (arc a.last p (Test []) ∷ tests false p a.next (ways t false)));
       loops = record { head = p; tried = rows_all tried } ∷ a.loops;
       joins = arc a.last p (Test []) ∷ a.joins;
     }
@@ -165,7 +158,6 @@ graph p =
       variables = length p.names.names;
       points = points_from (made p).loops 0 (p.place ∷ p.place ∷ (made p).places);
       edges = arc 0 1 (Enter p.names.params) ∷ (made p).edges;
-      bodies = false ∷ (made p).bodies;
     }
 
 -- the edges that are no step of the program, but for the first

@@ -12,7 +12,7 @@ use Rattle.pc_program.specs.declared.tree.Test.{Test}
 use Rattle.pc_program.specs.declared.tree.Test.TheVariants as test
 use Rattle.pc_program.specs.declared.tree.Stmt.{Stmt, Stmt-F, fold-Stmt}
 use Rattle.pc_program.specs.declared.tree.Stmt.TheOpen as stmt
-use Rattle.pc_flow.specs.Exact.{Annotation, IsPaid, IsOwed, StraightEdge}
+use Rattle.pc_flow.specs.Exact.{PointRows, IsPaid, IsOwed, StraightEdge}
 use Rattle.pc_graph.specs.Lowering.{graph}
 use Rattle.pc_flow.specs.Shape.{IsGraph, NoSharedHead}
 use Rattle.pc_flow.specs.Walk.{IsEntry, entered}
@@ -58,10 +58,10 @@ LoopFreeGraphs = (p : Program) → whiles_of p.body ≡ [] → Each (λ point. p
 -- a program whose graph has rows at each point that pay for each edge is safe from the entry states that meet those of the entry
 abbrev pub PaidProgramsAreSafe : Type 0
 PaidProgramsAreSafe =
-    (p : Program) (a : Annotation) (s : State) → IsEntry (graph p) s → IsPaid (graph p) a → MeetsAll (entered (graph p) s) (a 0) → Safe p s
+    (p : Program) (a : PointRows) (s : State) → IsEntry (graph p) s → IsPaid (graph p) a → MeetsAll (entered (graph p) s) (a 0) → Safe p s
 
 -- from an entry state that breaks a row that is owed at the entry some list of choices violates an assertion
 abbrev pub OwedIsViolated : Type 0
 OwedIsViolated =
-    (p : Program) (a : Annotation) (s : State) → are_straight p.body ≡ true → IsEntry (graph p) s → IsOwed (graph p).edges a →
+    (p : Program) (a : PointRows) (s : State) → are_straight p.body ≡ true → IsEntry (graph p) s → IsOwed (graph p).edges a →
     (MeetsAll (entered (graph p) s) (a 0) → ⊥) → (cs : List ℤ) × (q : Place) × (run_of p s cs ≡ Violated q)

@@ -5,7 +5,7 @@ ghost use Rattle.std.specs.List.{list_all};
 ghost use Rattle.pc_program.specs.Forms.{row_fits, rows_all};
 ghost use Rattle.pc_program.specs.Sane.{sane_test};
 ghost use Rattle.pc_program.specs.declared.tree.Test.TheVariants.{All};
-ghost use Rattle.pc_flow.specs.Arc.{IsFit, arc};
+ghost use Rattle.pc_flow.specs.Arc.{IsFit, marked};
 ghost use Rattle.pc_graph.specs.Drawn.{begun, extended, with_point, with_edge, with_tests, branched, joined_at, turned, headed};
 ghost use Rattle.pc_graph.specs.Lowering.{one};
 ghost use Rattle.pc_graph.specs.Ways.{apart, is_lone, ways_of, ways};
@@ -27,14 +27,13 @@ pub struct Loop {
 }
 
 /// What the rules have made so far: the present point, the number of the next point, the places of the points, the edges
-/// with whether each leads into the body of a loop, and the loops.
+/// and the loops.
 #[derive(Drop)]
 pub struct Draft {
     pub at: u32,
     pub next: u32,
     pub places: Items<Place>,
     pub edges: Items<Edge>,
-    pub bodies: Items<bool>,
     pub loops: Items<Loop>,
 }
 
@@ -43,7 +42,7 @@ impl Model for Draft {
 
     ghost Value = { Drawn };
 
-    ghost view = { λ d. record { at = d.at; next = d.next; places = d.places; edges = d.edges; bodies = d.bodies; loops = d.loops } };
+    ghost view = { λ d. record { at = d.at; next = d.next; places = d.places; edges = d.edges; loops = d.loops } };
 }
 
 impl Draft {
@@ -56,7 +55,6 @@ impl Draft {
             next,
             places: Items::new(alloc),
             edges: Items::new(alloc),
-            bodies: Items::new(alloc),
             loops: Items::new(alloc),
         }
     }
@@ -93,15 +91,18 @@ impl Draft {
         Ok(self.at)
     }
 
-    /// An edge, and whether it leads from a head into the body of its loop.
+    /// An edge.
     pub fn edge(&mut self, from: u32, to: u32, what: What, body: bool) -> Result<(), NoMemory>
         requires { IsFit what }
-        ensures { OnOk result (self.new ≡ with_edge (arc «from» to what) body self.old) }
+        ensures { OnOk result (self.new ≡ with_edge (marked body «from» to what) self.old) }
     {
-        if self.bodies.push(body).is_err() {
-            return Err(NoMemory);
-        }
-        match self.edges.push(Edge { from, to, what }) {
+        let edge = Edge {
+            from,
+            to,
+            what,
+            body,
+        };
+        match self.edges.push(edge) {
             Ok(()) => Ok(()),
             Err(_) => Err(NoMemory),
         }

@@ -165,11 +165,10 @@ pub fn lower(alloc: Global, p: &Program) -> Result<Graph, NoMemory>
         next: _,
         places,
         edges,
-        bodies,
         loops,
     } = draft;
     let points = points(alloc, loops.as_slice(), places.as_slice())?;
-    Ok(Graph::new(params, variables, points, edges, bodies))
+    Graph::new(alloc, params, variables, points, edges)
 }
 
 /// The entry, the start, and the edge from one to the other.

@@ -7,27 +7,28 @@ use Rattle.pc_rows.specs.Linear.{Linear}
 use Rattle.pc_rows.specs.Joins.{joined}
 use Rattle.pc_flow.specs.declared.point.PointInfo.{PointInfo}
 use Rattle.pc_flow.specs.Arc.{Arc}
-use Rattle.pc_flow.specs.Exact.{Annotation}
+use Rattle.pc_flow.specs.Exact.{PointRows}
 use Rattle.pc_flow.specs.Lists.{In}
 use Rattle.pc_flow.specs.Shape.{IsHead, LeadsUp}
 use Rattle.pc_lower.specs.Annotation.{is_head}
-use Rattle.pc_lower.specs.Need.{asked, leaving, gathered}
+use Rattle.pc_flow.specs.Incidence.{leaving}
+use Rattle.pc_lower.specs.Need.{demanded, gathered}
 use Rattle.pc_lower.specs.Operations.{Operation, edge_operations, edges_operations}
 
 -- two annotations have the same rows at the targets of edges
-abbrev pub Agree : Annotation → Annotation → List Arc → Type 0
+abbrev pub Agree : PointRows → PointRows → List Arc → Type 0
 Agree a b edges = Each (λ e. a e.to ≡ b e.to) edges
 
-pub gathered_alike : (a b : Annotation) (rows : List Linear) (edges : List Arc) → Agree a b edges → gathered a rows edges ≡ gathered b rows edges
+pub gathered_alike : (a b : PointRows) (rows : List Linear) (edges : List Arc) → Agree a b edges → gathered a rows edges ≡ gathered b rows edges
 gathered_alike a b rows [] h = refl
 gathered_alike a b rows (e ∷ edges) h =
-    ap (λ (z : List Linear). gathered a (joined rows (asked e.what z)) edges) h.0 ∙ gathered_alike a b (joined rows (asked e.what (b e.to))) edges h.1
+    ap (λ (z : List Linear). gathered a (joined rows (demanded e.what z)) edges) h.0 ∙ gathered_alike a b (joined rows (demanded e.what (b e.to))) edges h.1
 
-pub operations_alike : (a b : Annotation) (rows : List Linear) (edges : List Arc) → Agree a b edges → edges_operations a rows edges ≡ edges_operations b rows edges
+pub operations_alike : (a b : PointRows) (rows : List Linear) (edges : List Arc) → Agree a b edges → edges_operations a rows edges ≡ edges_operations b rows edges
 operations_alike a b rows [] h = refl
 operations_alike a b rows (e ∷ edges) h =
-    ap (λ (z : List Linear). edge_operations e.what rows z ++ edges_operations a (joined rows (asked e.what z)) edges) h.0
-    ∙ ap (λ (z : List Operation). edge_operations e.what rows (b e.to) ++ z) (operations_alike a b (joined rows (asked e.what (b e.to))) edges h.1)
+    ap (λ (z : List Linear). edge_operations e.what rows z ++ edges_operations a (joined rows (demanded e.what z)) edges) h.0
+    ∙ ap (λ (z : List Operation). edge_operations e.what rows (b e.to) ++ z) (operations_alike a b (joined rows (demanded e.what (b e.to))) edges h.1)
 
 -- the edges from a point are those edges that leave it
 pub each_leaving : (P : Arc → Type 0) (p : ℕ) (edges : List Arc) → Each P edges → Each (λ e. (e.from ≡ p) × P e) (leaving p edges)
@@ -57,11 +58,11 @@ is_the_head (point ∷ points) zero lt h = h
 is_the_head (point ∷ points) (suc p) lt h = is_the_head points p (omega arith) h
 
 -- the annotations have the same rows at points above p and at heads
-pub record AgreeAbove (points : List PointInfo) (p : ℕ) (a b : Annotation) : Type 0 where
+pub record AgreeAbove (points : List PointInfo) (p : ℕ) (a b : PointRows) : Type 0 where
   pub above : (q : ℕ) → p < q → a q ≡ b q
   pub heads : (q : ℕ) → is_head points q ≡ true → a q ≡ b q
 
-agrees : (points : List PointInfo) (variables p : ℕ) (a b : Annotation) → AgreeAbove points p a b → (edges : List Arc) →
+agrees : (points : List PointInfo) (variables p : ℕ) (a b : PointRows) → AgreeAbove points p a b → (edges : List Arc) →
     Each (λ e. (e.from ≡ p) × LeadsUp points variables e) edges → Agree a b edges
 agrees points variables p a b h [] all = tt
 agrees points variables p a b h (e ∷ edges) all = (by all.0.1.rises, agrees points variables p a b h edges all.1)
@@ -70,6 +71,6 @@ agrees points variables p a b h (e ∷ edges) all = (by all.0.1.rises, agrees po
     by (inl up) = h.above e.to (let from = all.0.0 in omega arith)
     by (inr head) = h.heads e.to (is_the_head points e.to all.0.1.reaches head)
 
-pub agree_leaving : (points : List PointInfo) (variables p : ℕ) (a b : Annotation) (edges : List Arc) → Each (LeadsUp points variables) edges → AgreeAbove points p a b →
+pub agree_leaving : (points : List PointInfo) (variables p : ℕ) (a b : PointRows) (edges : List Arc) → Each (LeadsUp points variables) edges → AgreeAbove points p a b →
     Agree a b (leaving p edges)
 agree_leaving points variables p a b edges leads h = agrees points variables p a b h (leaving p edges) (each_leaving (LeadsUp points variables) p edges leads)

@@ -7,7 +7,8 @@ use Rattle.pc_rows.specs.Linear.{Linear}
 use Rattle.pc_rows.specs.declared.rows.TheConstants.{ROWS}
 use Rattle.pc_flow.specs.declared.point.PointInfo.{PointInfo}
 use Rattle.pc_rows.proofs.Joining.{each_join}
-use Rattle.pc_lower.specs.Annotation.{rows_at, AreFew, AreOver, is_head, no_rows}
+use Rattle.pc_flow.specs.Annotation.{rows_at}
+use Rattle.pc_lower.specs.Annotation.{AreFew, AreOver, is_head, no_rows}
 use Rattle.pc_lower.specs.Need.{at_heads}
 
 -- the rows of point p where it is a head

@@ -10,7 +10,7 @@ use Rattle.pc_flow.specs.declared.what.What.TheVariants.{Test, Check}
 use Rattle.pc_flow.specs.Carry.{back_all}
 use Rattle.pc_lower.specs.declared.fault.CandidateFault.{CandidateFault}
 use Rattle.pc_lower.specs.declared.fault.CandidateFault.TheVariants.{Past, Full, NoMemory}
-use Rattle.pc_lower.specs.Need.{uncovered, asked}
+use Rattle.pc_lower.specs.Need.{uncovered, demanded}
 use Rattle.pc_lower.specs.Operations.{Joins, Fits, IsFirstFault, Answers, carries, edge_operations}
 use Rattle.pc_lower.proofs.Answering.{fault_after, answer_after}
 
@@ -33,11 +33,11 @@ check_fits own [] = tt
 check_fits own (r ∷ rows) = (tt, check_fits own rows)
 
 after_carries : (w : What) (a target : List Linear) (answer : Result (List Linear) CandidateFault) → Each Fits (carries w target) →
-    Answers (Joins a (asked w target) ∷ []) (joined a (asked w target)) answer → Answers (edge_operations w a target) (joined a (asked w target)) answer
-after_carries w a target answer fit h = answer_after (carries w target) (Joins a (asked w target) ∷ []) (joined a (asked w target)) answer fit h
+    Answers (Joins a (demanded w target) ∷ []) (joined a (demanded w target)) answer → Answers (edge_operations w a target) (joined a (demanded w target)) answer
+after_carries w a target answer fit h = answer_after (carries w target) (Joins a (demanded w target) ∷ []) (joined a (demanded w target)) answer fit h
 
 pub over_test : (w : What) (own a target left : List Linear) (answer : Result (List Linear) CandidateFault) → w ≡ Test own → left ≡ uncovered own target →
-    Answers (Joins a left ∷ []) (joined a left) answer → Answers (edge_operations w a target) (joined a (asked w target)) answer
+    Answers (Joins a left ∷ []) (joined a left) answer → Answers (edge_operations w a target) (joined a (demanded w target)) answer
 over_test w own a target left answer e is h =
     rw e (after_carries (Test own) a target answer (test_fits own target)
     (subst (λ (z : List Linear). Answers (Joins a z ∷ []) (joined a z) answer) (is ∙ ap (uncovered own) (sym (test_same own target))) h))
@@ -57,7 +57,7 @@ over_both own a target (Err Full) h = both_refused Full own a target h
 over_both own a target (Err NoMemory) h = tt
 
 pub over_check : (w : What) (own a first target : List Linear) (answer : Result (List Linear) CandidateFault) → w ≡ Check own → first ≡ joined a own →
-    Answers (Joins first target ∷ []) (joined first target) answer → Answers (edge_operations w a target) (joined a (asked w target)) answer
+    Answers (Joins first target ∷ []) (joined first target) answer → Answers (edge_operations w a target) (joined a (demanded w target)) answer
 over_check w own a first target answer e is h =
     rw e (after_carries (Check own) a target answer (check_fits own target)
     (over_both own a target answer (subst (λ (z : List Linear). Answers (Joins z target ∷ []) (joined z target) answer) is h)))

@@ -7,8 +7,10 @@ use Rattle.pc_flow.specs.Flow.{Flow}
 use Rattle.pc_flow.specs.Shape.{IsGraph}
 use Rattle.pc_lower.specs.declared.fault.CandidateFault.{CandidateFault}
 use Rattle.pc_lower.specs.declared.fault.CandidateFault.TheVariants.{Past, Full, NoMemory}
-use Rattle.pc_lower.specs.Annotation.{rows_at, is_head, AreFew, NoHeads}
-use Rattle.pc_lower.specs.Need.{leaving, needed_at, at_heads, filled, filled_below, need}
+use Rattle.pc_flow.specs.Annotation.{rows_at}
+use Rattle.pc_lower.specs.Annotation.{is_head, AreFew, NoHeads}
+use Rattle.pc_flow.specs.Incidence.{leaving}
+use Rattle.pc_lower.specs.Need.{needed_at, at_heads, filled, filled_below, need}
 use Rattle.pc_lower.specs.Operations.{Operation, Fits, Answers, edges_operations, operations_below, operations}
 use Rattle.pc_lower.specs.Laws.{IsNotRefused}
 use Rattle.pc_lower.specs.Tame.{IsTame}

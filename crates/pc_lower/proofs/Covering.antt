@@ -1,5 +1,5 @@
 -- What an edge owes is covered by the rows of its point and of its test.
-use Rattle.std.proofs.Common.{◌≡◌, List, [], ◌∷◌, ◌++◌, sym, refl, subst, cond, Bool, true, false, inl, inr, ◌≤ℤ◌}
+use Rattle.std.proofs.Common.{◌≡◌, List, [], ◌∷◌, ◌++◌, sym, refl, subst, cond, Bool, true, false, inl, inr}
 use Rattle.std.specs.Prelude.{not}
 use Rattle.std.specs.List.{AllByRecursion as Each}
 use Rattle.std.specs.Int.Signed.{≤ℤ_refl}
@@ -10,11 +10,12 @@ use Rattle.pc_flow.specs.declared.what.What.{What}
 use Rattle.pc_flow.specs.declared.what.What.TheVariants.{Enter, Test, Set, Check}
 use Rattle.pc_flow.specs.Arc.{Arc}
 use Rattle.pc_flow.specs.Carry.{owes, test_rows}
-use Rattle.pc_flow.specs.Exact.{Annotation}
+use Rattle.pc_flow.specs.Exact.{PointRows}
 use Rattle.pc_flow.specs.Lists.{In}
 use Rattle.pc_flow.proofs.Lists.{each_more}
-use Rattle.pc_lower.specs.Annotation.{rows_at}
-use Rattle.pc_lower.specs.Need.{uncovered, asked, leaving, gathered, need}
+use Rattle.pc_flow.specs.Annotation.{rows_at}
+use Rattle.pc_flow.specs.Incidence.{leaving}
+use Rattle.pc_lower.specs.Need.{uncovered, demanded, gathered, need}
 use Rattle.pc_lower.specs.Laws.{AnnotationCovers}
 use Rattle.pc_lower.proofs.Agreeing.{in_leaving}
 use Rattle.pc_lower.proofs.Meaning.{need_is}
@@ -62,19 +63,19 @@ joined_covers_rows : (a b : List Linear) → Each (λ r. Covers r (joined a b)) 
 joined_covers_rows a [] = tt
 joined_covers_rows a (r ∷ b) = (joined_covers (with_row a r) b r (with_covers_row a r), joined_covers_rows (with_row a r) b)
 
-gathered_covers : (a : Annotation) (rows : List Linear) (edges : List Arc) (r : Linear) → Covers r rows → Covers r (gathered a rows edges)
+gathered_covers : (a : PointRows) (rows : List Linear) (edges : List Arc) (r : Linear) → Covers r rows → Covers r (gathered a rows edges)
 gathered_covers a rows [] r h = h
 gathered_covers a rows (e ∷ edges) r h =
-    gathered_covers a (joined rows (asked e.what (a e.to))) edges r (joined_covers rows (asked e.what (a e.to)) r h)
+    gathered_covers a (joined rows (demanded e.what (a e.to))) edges r (joined_covers rows (demanded e.what (a e.to)) r h)
 
 -- what an edge asks is covered by what is gathered
-gathered_covers_asked : (a : Annotation) (rows : List Linear) (edges : List Arc) (e : Arc) → In e edges → Each (λ r. Covers r (gathered a rows edges)) (asked e.what (a e.to))
-gathered_covers_asked a rows [] e m = absurd m
-gathered_covers_asked a rows (f ∷ edges) e (inl same) =
-    subst (λ (z : Arc). Each (λ r. Covers r (gathered a rows (f ∷ edges))) (asked z.what (a z.to))) (sym same)
-    (each_more (λ r. Covers r (joined rows (asked f.what (a f.to)))) (λ r. Covers r (gathered a rows (f ∷ edges)))
-    (λ r h. gathered_covers a (joined rows (asked f.what (a f.to))) edges r h) (asked f.what (a f.to)) (joined_covers_rows rows (asked f.what (a f.to))))
-gathered_covers_asked a rows (f ∷ edges) e (inr m) = gathered_covers_asked a (joined rows (asked f.what (a f.to))) edges e m
+gathered_covers_demanded : (a : PointRows) (rows : List Linear) (edges : List Arc) (e : Arc) → In e edges → Each (λ r. Covers r (gathered a rows edges)) (demanded e.what (a e.to))
+gathered_covers_demanded a rows [] e m = absurd m
+gathered_covers_demanded a rows (f ∷ edges) e (inl same) =
+    subst (λ (z : Arc). Each (λ r. Covers r (gathered a rows (f ∷ edges))) (demanded z.what (a z.to))) (sym same)
+    (each_more (λ r. Covers r (joined rows (demanded f.what (a f.to)))) (λ r. Covers r (gathered a rows (f ∷ edges)))
+    (λ r h. gathered_covers a (joined rows (demanded f.what (a f.to))) edges r h) (demanded f.what (a f.to)) (joined_covers_rows rows (demanded f.what (a f.to))))
+gathered_covers_demanded a rows (f ∷ edges) e (inr m) = gathered_covers_demanded a (joined rows (demanded f.what (a f.to))) edges e m
 
 -- and what it owes by that and the rows of its test
 
@@ -95,7 +96,7 @@ owed_uncovered rows own (r ∷ owed) h = by (is_covered r own) refl h (λ k. owe
     by true e k go = (is_covered_test r (rows ++ own) (right_covers rows own r (covered_is r own e)), go k)
     by false e k go = (by_rows rows own r k.0, go k.1)
 
-owed_covered : (w : What) (rows target : List Linear) → Each (λ r. Covers r rows) (asked w target) → Each (Both rows (test_rows w)) (owes w target)
+owed_covered : (w : What) (rows target : List Linear) → Each (λ r. Covers r rows) (demanded w target) → Each (Both rows (test_rows w)) (owes w target)
 owed_covered (Test own) rows target h = owed_uncovered rows own (owes (Test own) target) h
 owed_covered (Enter params) rows target h = each_more (λ r. Covers r rows) (Both rows []) (by_rows rows []) (owes (Enter params) target) h
 owed_covered (Set x form lo hi) rows target h = each_more (λ r. Covers r rows) (Both rows []) (by_rows rows []) (owes (Set x form lo hi) target) h
@@ -105,6 +106,6 @@ pub annotation_covers : AnnotationCovers
 unfolding Both
 annotation_covers g heads is e m h =
     let a = rows_at (need g heads) in
-    let all = gathered_covers_asked a [] (leaving e.from g.edges) e (in_leaving e.from g.edges e m refl) in
+    let all = gathered_covers_demanded a [] (leaving e.from g.edges) e (in_leaving e.from g.edges e m refl) in
     owed_covered e.what (a e.from) (a e.to)
-    (subst (λ (z : List Linear). Each (λ r. Covers r z) (asked e.what (a e.to))) (sym ((need_is g is.leads heads).needed e.from h)) all)
+    (subst (λ (z : List Linear). Each (λ r. Covers r z) (demanded e.what (a e.to))) (sym ((need_is g is.leads heads).needed e.from h)) all)

@@ -7,8 +7,10 @@ use Rattle.pc_rows.specs.Linear.{Linear}
 use Rattle.pc_flow.specs.declared.point.PointInfo.{PointInfo}
 use Rattle.pc_flow.specs.Flow.{Flow}
 use Rattle.pc_flow.specs.Shape.{LeadsUp}
-use Rattle.pc_lower.specs.Annotation.{rows_at, is_head}
-use Rattle.pc_lower.specs.Need.{leaving, needed_at, filled, filled_below}
+use Rattle.pc_flow.specs.Annotation.{rows_at}
+use Rattle.pc_lower.specs.Annotation.{is_head}
+use Rattle.pc_flow.specs.Incidence.{leaving}
+use Rattle.pc_lower.specs.Need.{needed_at, filled, filled_below}
 use Rattle.pc_lower.proofs.Agreeing.{AgreeAbove, agree_leaving, gathered_alike}
 
 abbrev Rows : Type 0

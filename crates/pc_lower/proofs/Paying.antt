@@ -15,14 +15,16 @@ use Rattle.pc_flow.specs.declared.what.What.{What}
 use Rattle.pc_flow.specs.declared.what.What.TheVariants.{Enter, Test, Set, Check}
 use Rattle.pc_flow.specs.Arc.{Arc}
 use Rattle.pc_flow.specs.Carry.{back_all, owes, test_rows, HasVariable, Pays}
-use Rattle.pc_flow.specs.Exact.{Annotation}
+use Rattle.pc_flow.specs.Exact.{PointRows}
 use Rattle.pc_flow.specs.Lists.{In}
 use Rattle.pc_flow.specs.Shape.{LeadsUp}
 use Rattle.pc_flow.specs.Walk.{Pass}
 use Rattle.pc_flow.proofs.Lists.{each_at, each_in, in_either}
 use Rattle.pc_flow.proofs.Assigning.{has_variable}
-use Rattle.pc_lower.specs.Annotation.{rows_at, is_head, NoHeads}
-use Rattle.pc_lower.specs.Need.{asked, leaving, gathered, need}
+use Rattle.pc_flow.specs.Annotation.{rows_at}
+use Rattle.pc_lower.specs.Annotation.{is_head, NoHeads}
+use Rattle.pc_flow.specs.Incidence.{leaving}
+use Rattle.pc_lower.specs.Need.{demanded, gathered, need}
 use Rattle.pc_lower.specs.Laws.{NeedIsPaid, NeedIsOwed}
 use Rattle.pc_lower.proofs.Agreeing.{each_leaving}
 use Rattle.pc_lower.proofs.Covering.{annotation_covers}
@@ -115,34 +117,34 @@ in_filter test (r ∷ rows) q m = by (test r) m (λ k. in_filter test rows q k)
     by true (inr k) go = inr (go k)
     by false k go = inr (go k)
 
-in_asked : (w : What) (rows : List Linear) (q : Linear) → In q (asked w rows) → In q (owes w rows)
-in_asked (Test own) rows q m = in_filter (λ r. not (is_covered r own)) (owes (Test own) rows) q m
-in_asked (Enter params) rows q m = m
-in_asked (Set x form lo hi) rows q m = m
-in_asked (Check own) rows q m = m
+in_demanded : (w : What) (rows : List Linear) (q : Linear) → In q (demanded w rows) → In q (owes w rows)
+in_demanded (Test own) rows q m = in_filter (λ r. not (is_covered r own)) (owes (Test own) rows) q m
+in_demanded (Enter params) rows q m = m
+in_demanded (Set x form lo hi) rows q m = m
+in_demanded (Check own) rows q m = m
 
 -- a row that is gathered was there or is asked for by one of the edges
-in_gathered : (a : Annotation) (rows : List Linear) (edges : List Arc) (q : Linear) → In q (gathered a rows edges) → In q rows ⊎ ((e : Arc) × In e edges × In q (asked e.what (a e.to)))
+in_gathered : (a : PointRows) (rows : List Linear) (edges : List Arc) (q : Linear) → In q (gathered a rows edges) → In q rows ⊎ ((e : Arc) × In e edges × In q (demanded e.what (a e.to)))
 in_gathered a rows [] q m = inl m
-in_gathered a rows (e ∷ edges) q m = by (in_gathered a (joined rows (asked e.what (a e.to))) edges q m)
+in_gathered a rows (e ∷ edges) q m = by (in_gathered a (joined rows (demanded e.what (a e.to))) edges q m)
   where
-    first : In q rows ⊎ In q (asked e.what (a e.to)) → In q rows ⊎ ((f : Arc) × In f (e ∷ edges) × In q (asked f.what (a f.to)))
+    first : In q rows ⊎ In q (demanded e.what (a e.to)) → In q rows ⊎ ((f : Arc) × In f (e ∷ edges) × In q (demanded f.what (a f.to)))
     first (inl k) = inl k
     first (inr k) = inr (e, inl refl, k)
 
-    by : In q (joined rows (asked e.what (a e.to))) ⊎ ((f : Arc) × In f edges × In q (asked f.what (a f.to))) →
-        In q rows ⊎ ((f : Arc) × In f (e ∷ edges) × In q (asked f.what (a f.to)))
-    by (inl k) = first (in_joined rows (asked e.what (a e.to)) q k)
+    by : In q (joined rows (demanded e.what (a e.to))) ⊎ ((f : Arc) × In f edges × In q (demanded f.what (a f.to))) →
+        In q rows ⊎ ((f : Arc) × In f (e ∷ edges) × In q (demanded f.what (a f.to)))
+    by (inl k) = first (in_joined rows (demanded e.what (a e.to)) q k)
     by (inr k) = inr (k.0, inr k.1, k.2)
 
 pub need_is_owed : NeedIsOwed
 need_is_owed g heads is none p r m = by (in_gathered a [] (leaving p g.edges) r (subst (In r) ((need_is g is.leads heads).needed p (no_head g.points p none)) m))
   where
-    a : Annotation
+    a : PointRows
     a = rows_at (need g heads)
 
-    by : In r [] ⊎ ((e : Arc) × In e (leaving p g.edges) × In r (asked e.what (a e.to))) → (e : Arc) × In e g.edges × (e.from ≡ p) × In r (owes e.what (a e.to))
+    by : In r [] ⊎ ((e : Arc) × In e (leaving p g.edges) × In r (demanded e.what (a e.to))) → (e : Arc) × In e g.edges × (e.from ≡ p) × In r (owes e.what (a e.to))
     by (inl k) = absurd k
     by (inr k) =
         let from = each_at (λ e. (e.from ≡ p) × In e g.edges) (leaving p g.edges) k.0 (each_leaving (λ e. In e g.edges) p g.edges (each_in g.edges)) k.1 in
-        (k.0, from.1, from.0, in_asked k.0.what (a k.0.to) r k.2)
+        (k.0, from.1, from.0, in_demanded k.0.what (a k.0.to) r k.2)

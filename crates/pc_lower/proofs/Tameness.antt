@@ -11,11 +11,13 @@ use Rattle.pc_language.specs.Ends.{end_of}
 use Rattle.pc_flow.specs.declared.what.What.{What}
 use Rattle.pc_flow.specs.declared.what.What.TheVariants.{Enter, Test, Set, Check}
 use Rattle.pc_flow.specs.Arc.{Arc}
-use Rattle.pc_flow.specs.Exact.{Annotation}
+use Rattle.pc_flow.specs.Exact.{PointRows}
 use Rattle.pc_flow.specs.Flow.{Flow}
 use Rattle.pc_flow.specs.Shape.{IsGraph}
-use Rattle.pc_lower.specs.Annotation.{rows_at, NoHeads, no_rows}
-use Rattle.pc_lower.specs.Need.{asked, leaving, gathered, need}
+use Rattle.pc_flow.specs.Annotation.{rows_at}
+use Rattle.pc_lower.specs.Annotation.{NoHeads, no_rows}
+use Rattle.pc_flow.specs.Incidence.{leaving}
+use Rattle.pc_lower.specs.Need.{demanded, gathered, need}
 use Rattle.pc_lower.specs.Operations.{Fits, carries, edges_operations, operations_below, point_operations}
 use Rattle.pc_lower.specs.Tame.{tame_bound, HasTameNumbers, AreTame, IsTame}
 use Rattle.pc_lower.specs.Laws.{TameNeedFits}
@@ -35,25 +37,25 @@ carries_fit (Check rows) (r ∷ more) own h = (tt, carries_fit (Check rows) more
 carries_fit (Set x form lo hi) (r ∷ rows) own h =
     (small_substitution_fits tame_bound r form x (Some (end_of lo)) (Some (end_of hi)) small h.0 own.0 own.1 own.2, carries_fit (Set x form lo hi) rows own h.1)
 
-gathered-longer : (a : Annotation) (rows : List Linear) (edges : List Arc) → length rows ≤ length (gathered a rows edges)
+gathered-longer : (a : PointRows) (rows : List Linear) (edges : List Arc) → length rows ≤ length (gathered a rows edges)
 gathered-longer a rows [] = omega arith
 gathered-longer a rows (e ∷ edges) =
-    let one = joined-longer rows (asked e.what (a e.to)) in
-    let more = gathered-longer a (joined rows (asked e.what (a e.to))) edges in
+    let one = joined-longer rows (demanded e.what (a e.to)) in
+    let more = gathered-longer a (joined rows (demanded e.what (a e.to))) edges in
     omega arith
 
 -- where all that is gathered is not too much, no join has a row too many
-edges_fit : (a : Annotation) (rows : List Linear) (edges : List Arc) → Each (λ e. Each Fits (carries e.what (a e.to))) edges → length (gathered a rows edges) ≤ ROWS →
+edges_fit : (a : PointRows) (rows : List Linear) (edges : List Arc) → Each (λ e. Each Fits (carries e.what (a e.to))) edges → length (gathered a rows edges) ≤ ROWS →
     Each Fits (edges_operations a rows edges)
 edges_fit a rows [] h most = tt
 edges_fit a rows (e ∷ edges) h most =
-    let new = joined rows (asked e.what (a e.to)) in
+    let new = joined rows (demanded e.what (a e.to)) in
     let more = gathered-longer a new edges in
     let here : length new ≤ ROWS = omega arith in
     each_join Fits (carries e.what (a e.to) ++ _ ∷ []) (edges_operations a new edges) (each_join Fits (carries e.what (a e.to)) (_ ∷ []) h.0 (here, tt)) (edges_fit a new edges h.1 most)
 
 module _ (g : Flow) (heads : List (List Linear)) (is : IsGraph g) (none : NoHeads g.points) (tame : IsTame g) where
-  a : Annotation
+  a : PointRows
   a = rows_at (need g heads)
 
   tame_at : (p : ℕ) → AreTame (a p)

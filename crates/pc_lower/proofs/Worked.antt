@@ -16,7 +16,7 @@ abbrev point : Bool → PointInfo
 point head = record { head = head; tried = []; place = record { line = 1; column = 1 } }
 
 abbrev flow : List Bool → List Arc → Flow
-flow heads edges = record { params = 1; variables = 2; points = map point heads; edges = edges; bodies = [] }
+flow heads edges = record { params = 1; variables = 2; points = map point heads; edges = edges }
 
 -- if (x >= 0) { assert (x >= -5); }: on the way with x >= 0 the test covers what is asserted
 abbrev at_least_zero : Linear

@@ -1,14 +1,10 @@
--- Annotations: a list of rows for each point of a graph, by the point's number.
-use Rattle.std.specs.Prelude.{◌≡◌, ◌≤◌, ℕ, Bool, false, List, [], length, map, slice_get, slice_index_or}
+-- Annotations whose rows are over the variables and not too many, and the heads of a graph.
+use Rattle.std.specs.Prelude.{◌≡◌, ◌≤◌, ℕ, Bool, false, List, [], length, map, slice_get}
 use Rattle.std.specs.List.{AllByRecursion as Each}
 use Rattle.std.specs.Option.{option_map_or}
 use Rattle.pc_rows.specs.Linear.{Linear, IsOver}
 use Rattle.pc_rows.specs.declared.rows.TheConstants.{ROWS}
 use Rattle.pc_flow.specs.declared.point.PointInfo.{PointInfo}
-
--- the rows of point p
-abbrev pub rows_at : List (List Linear) → ℕ → List Linear
-rows_at a p = slice_index_or a p []
 
 -- no rows at any point
 abbrev pub no_rows : List PointInfo → List (List Linear)

@@ -5,19 +5,20 @@ use Rattle.pc_rows.specs.Linear.{Linear, IsOver}
 use Rattle.pc_rows.specs.Joins.{is_covered}
 use Rattle.pc_flow.specs.Arc.{Arc}
 use Rattle.pc_flow.specs.Carry.{owes, test_rows}
-use Rattle.pc_flow.specs.Exact.{Annotation, IsPaid, IsOwed}
+use Rattle.pc_flow.specs.Exact.{PointRows, IsPaid, IsOwed}
 use Rattle.pc_flow.specs.Flow.{Flow}
 use Rattle.pc_flow.specs.Lists.{In}
 use Rattle.pc_flow.specs.Shape.{IsGraph}
 use Rattle.pc_lower.specs.declared.fault.CandidateFault.{CandidateFault}
 use Rattle.pc_lower.specs.declared.fault.CandidateFault.TheVariants.{Past, Full, NoMemory}
-use Rattle.pc_lower.specs.Annotation.{rows_at, AreOver, is_head, NoHeads}
+use Rattle.pc_flow.specs.Annotation.{rows_at}
+use Rattle.pc_lower.specs.Annotation.{AreOver, is_head, NoHeads}
 use Rattle.pc_lower.specs.Need.{need, IsNeed}
 use Rattle.pc_lower.specs.Operations.{Fits, operations}
 use Rattle.pc_lower.specs.Tame.{IsTame}
 
 -- each row that an edge owes is covered by the rows of the point that it leaves and those of its test together
-abbrev pub IsCovered : Annotation → Arc → Type 0
+abbrev pub IsCovered : PointRows → Arc → Type 0
 IsCovered a e = Each (λ r. is_covered r (a e.from ++ test_rows e.what) ≡ true) (owes e.what (a e.to))
 
 -- a list of rows for each point, over the graph's variables and at the entry over its parameters, that covers what the

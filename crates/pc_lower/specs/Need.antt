@@ -1,5 +1,5 @@
 -- The need: the rows that each point has to meet so that every edge from it is paid, where the rows of the heads are given.
-use Rattle.std.specs.Prelude.{◌≡◌, ◌==◌, ℕ, zero, suc, false, true, not, if◌then◌else◌, List, [], ◌∷◌, length, filter, slice_set}
+use Rattle.std.specs.Prelude.{◌≡◌, ℕ, zero, suc, false, true, not, if◌then◌else◌, List, [], ◌∷◌, length, filter, slice_set}
 use Rattle.pc_rows.specs.Linear.{Linear}
 use Rattle.pc_rows.specs.Joins.{is_covered, joined}
 use Rattle.pc_flow.specs.declared.point.PointInfo.{PointInfo}
@@ -7,32 +7,30 @@ use Rattle.pc_flow.specs.declared.what.What.{What}
 use Rattle.pc_flow.specs.declared.what.What.TheVariants.{Enter, Test, Set, Check}
 use Rattle.pc_flow.specs.Arc.{Arc}
 use Rattle.pc_flow.specs.Carry.{owes}
-use Rattle.pc_flow.specs.Exact.{Annotation}
+use Rattle.pc_flow.specs.Incidence.{leaving}
+use Rattle.pc_flow.specs.Exact.{PointRows}
 use Rattle.pc_flow.specs.Flow.{Flow}
-use Rattle.pc_lower.specs.Annotation.{rows_at, is_head}
+use Rattle.pc_flow.specs.Annotation.{rows_at}
+use Rattle.pc_lower.specs.Annotation.{is_head}
 
 -- the rows that others do not cover
 abbrev pub uncovered : List Linear → List Linear → List Linear
 uncovered others rows = filter (λ r. not (is_covered r others)) rows
 
--- what an edge asks of the point that it leaves, for rows at its target: what it owes, but over a test not what the test covers
-abbrev pub asked : What → List Linear → List Linear
-asked (Test own) rows = uncovered own (owes (Test own) rows)
-asked (Enter params) rows = owes (Enter params) rows
-asked (Set x form lo hi) rows = owes (Set x form lo hi) rows
-asked (Check own) rows = owes (Check own) rows
+-- what an edge demands of the point that it leaves, for rows at its target: what it owes, but over a test not what the test covers
+abbrev pub demanded : What → List Linear → List Linear
+demanded (Test own) rows = uncovered own (owes (Test own) rows)
+demanded (Enter params) rows = owes (Enter params) rows
+demanded (Set x form lo hi) rows = owes (Set x form lo hi) rows
+demanded (Check own) rows = owes (Check own) rows
 
--- the edges from a point, in order
-abbrev pub leaving : ℕ → List Arc → List Arc
-leaving p edges = filter (λ e. e.from == p) edges
-
--- rows, joined with what each of the edges asks, one edge after the other
-abbrev pub gathered : Annotation → List Linear → List Arc → List Linear
+-- rows, joined with what each of the edges demands, one edge after the other
+abbrev pub gathered : PointRows → List Linear → List Arc → List Linear
 gathered a rows [] = rows
-gathered a rows (e ∷ edges) = gathered a (joined rows (asked e.what (a e.to))) edges
+gathered a rows (e ∷ edges) = gathered a (joined rows (demanded e.what (a e.to))) edges
 
 -- what a point needs that is no head
-abbrev pub needed_at : List Arc → Annotation → ℕ → List Linear
+abbrev pub needed_at : List Arc → PointRows → ℕ → List Linear
 needed_at edges a p = gathered a [] (leaving p edges)
 
 -- the rows of the heads, and none at other points

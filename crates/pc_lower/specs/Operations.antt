@@ -7,12 +7,14 @@ use Rattle.pc_rows.specs.declared.rows.TheConstants.{ROWS}
 use Rattle.pc_flow.specs.declared.what.What.{What}
 use Rattle.pc_flow.specs.Arc.{Arc}
 use Rattle.pc_flow.specs.Carry.{BackFits}
-use Rattle.pc_flow.specs.Exact.{Annotation}
+use Rattle.pc_flow.specs.Exact.{PointRows}
 use Rattle.pc_flow.specs.Flow.{Flow}
 use Rattle.pc_lower.specs.declared.fault.CandidateFault.{CandidateFault}
 use Rattle.pc_lower.specs.declared.fault.CandidateFault.TheVariants.{Past, Full, NoMemory}
-use Rattle.pc_lower.specs.Annotation.{rows_at, is_head}
-use Rattle.pc_lower.specs.Need.{asked, leaving, need}
+use Rattle.pc_flow.specs.Annotation.{rows_at}
+use Rattle.pc_lower.specs.Annotation.{is_head}
+use Rattle.pc_flow.specs.Incidence.{leaving}
+use Rattle.pc_lower.specs.Need.{demanded, need}
 
 -- a row carried back over an edge, or two lists of rows joined
 pub data Operation : Type 0 where
@@ -47,19 +49,19 @@ carries w rows = map (Carries w) rows
 
 -- over an edge from a point that has rows so far all rows at the target are carried back, and then the join begins
 abbrev pub edge_operations : What → List Linear → List Linear → List Operation
-edge_operations w rows target = carries w target ++ Joins rows (asked w target) ∷ []
+edge_operations w rows target = carries w target ++ Joins rows (demanded w target) ∷ []
 
 -- over edges one after the other
-abbrev pub edges_operations : Annotation → List Linear → List Arc → List Operation
+abbrev pub edges_operations : PointRows → List Linear → List Arc → List Operation
 edges_operations a rows [] = []
-edges_operations a rows (e ∷ edges) = edge_operations e.what rows (a e.to) ++ edges_operations a (joined rows (asked e.what (a e.to))) edges
+edges_operations a rows (e ∷ edges) = edge_operations e.what rows (a e.to) ++ edges_operations a (joined rows (demanded e.what (a e.to))) edges
 
 -- at a point: a head has its rows
-abbrev pub point_operations : Flow → Annotation → ℕ → List Operation
+abbrev pub point_operations : Flow → PointRows → ℕ → List Operation
 point_operations g a p = if is_head g.points p then [] else edges_operations a [] (leaving p g.edges)
 
 -- at the points below number n, from the greatest down
-abbrev pub operations_below : Flow → Annotation → ℕ → List Operation
+abbrev pub operations_below : Flow → PointRows → ℕ → List Operation
 operations_below g a zero = []
 operations_below g a (suc n) = point_operations g a n ++ operations_below g a n
 

@@ -2,24 +2,14 @@
 
 ghost use Rattle.std.specs.Prelude.{◌≡◌, ◌<◌, ◌≤◌, [], length, IfOk, if◌then◌else◌};
 ghost use Rattle.pc_rows.specs.declared.rows.TheConstants.{ROWS};
-ghost use Rattle.pc_lower.specs.Annotation.{rows_at, AreFew, is_head, no_rows};
+ghost use Rattle.pc_flow.specs.Annotation.{rows_at};
+ghost use Rattle.pc_lower.specs.Annotation.{AreFew, is_head, no_rows};
 ghost use Rattle.pc_lower.specs.Need.{at_heads};
 
-use pc_flow::Graph;
+use pc_flow::{Annotation, Graph, rows_at};
 use pc_rows::{NoMemory, Rows};
 use sqlite_items::Items;
 use std::alloc::Global;
-
-/// A list of rows for each point of a graph, by the point's number.
-pub type Annotation = Items<Rows>;
-
-/// The rows of a point.
-pub fn rows_at(a: &Annotation, p: u32) -> &Rows
-    requires { p < length a.now }
-    ensures { result.now ≡ rows_at a.now p }
-{
-    &a.as_slice()[p as usize]
-}
 
 /// No rows at any point.
 pub fn no_rows(alloc: Global, g: &Graph) -> Result<Annotation, NoMemory>

@@ -8,9 +8,10 @@ mod fault;
 mod laws;
 mod need;
 
-pub use annotation::{Annotation, no_rows, rows_at};
+pub use annotation::no_rows;
 pub use completion::complete;
 pub use fault::CandidateFault;
 pub use laws::{
     annotation_covers, need_is_free, need_is_meant, need_is_owed, need_is_paid, tame_need_fits,
 };
+pub use pc_flow::{Annotation, rows_at};

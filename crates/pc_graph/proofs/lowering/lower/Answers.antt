@@ -20,8 +20,7 @@ new-requires c =
     let loops : c.as_slice-2.result.now ≡ g.loops = cc in
     let places : c.as_slice-3.result.now ≡ g.places = cc in
     let edges : c.draft.inside.edges ≡ g.edges = cc in
-    let bodies : c.draft.inside.bodies ≡ g.bodies = cc in
     let same = graph_made c.args.p.now c.as_slice.result.now c.in_ok-draft.draft g c.params-params.result c.len-variables.result c.as_slice-2.result.now c.as_slice-3.result.now
-    c.in_ok-points.points c.draft.inside.edges c.draft.inside.bodies c.as_slice.ensures c.params-params.ensures c.len-variables.ensures.value c.in_ok-draft.ensures c.in_ok-lower_list.ensures
-    loops places edges bodies c.in_ok-points.ensures in
+    c.in_ok-points.points c.draft.inside.edges c.as_slice.ensures c.params-params.ensures c.len-variables.ensures.value c.in_ok-draft.ensures c.in_ok-lower_list.ensures
+    loops places edges c.in_ok-points.ensures in
     subst IsGraph (sym same) (graph_kept c.args.p.now)

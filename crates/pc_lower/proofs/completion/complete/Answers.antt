@@ -1,6 +1,6 @@
 use Rattle.std.proofs.Common.{◌≡◌, ◌∙◌, ℕ, suc, ◌-◌, subst, sym, arith}
 use Rattle.std.proofs.lemmas.Result.{err_from_is_err_and}
-use Rattle.pc_lower.specs.Annotation.{rows_at}
+use Rattle.pc_flow.specs.Annotation.{rows_at}
 use Rattle.pc_lower.specs.Need.{needed_at}
 use Rattle.pc_lower.specs.Laws.{IsComplete}
 use Rattle.pc_lower.proofs.Annotations.{head_told}
