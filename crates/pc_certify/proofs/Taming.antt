@@ -1,12 +1,15 @@
 -- On a tame graph without loops all that is computed for the proofs is in range.
-use Rattle.std.proofs.Common.{◌≡◌, ℕ, zero, suc, ◌+◌, ◌*◌, ℤ, pos, negsuc, ◌+ℤ◌, ◌*ℤ◌, neg_ℤ, List, [], ◌∷◌, set, subst, arith, Bool, true, false, cond, Some, inl, inr}
+use Rattle.std.proofs.Common.{◌≡◌, ℕ, zero, suc, ◌+◌, ◌*◌, ℤ, pos, negsuc, ◌+ℤ◌, ◌*ℤ◌, neg_ℤ, List, [], ◌∷◌, set, subst, arith, Bool, true, false, cond, Option, ◌≤◌, inl, inr}
+use Rattle.std.specs.Prelude.{replicate}
 use Rattle.std.specs.List.{AllByRecursion, find}
 use Rattle.std.proofs.lemmas.Int.{ints}
 use Rattle.pc_rows.specs.Linear.{Linear, coefficient, is_zero, add_lists, scale_list, negate_list, zero_from, negation}
 use Rattle.pc_rows.specs.Bounds.{IsWithin, AreWithin, Within, AllWithin}
 use Rattle.pc_rows.specs.Joins.{is_at_most}
-use Rattle.pc_rows.specs.Substitution.{carried, lesser}
-use Rattle.pc_rows.proofs.Bounding.{product_within, sum_within, opposite_within, lesser_within, within_in_range, more_within, scale_within, add_within, negate_within, at_within, set_within, small_substitution_fits}
+use Rattle.pc_rows.specs.Substitution.{carried, never_row, least_product, needs_open_end}
+use Rattle.pc_rows.specs.Laws.{EndIsWithin}
+use Rattle.pc_rows.specs.declared.row.TheConstants.{VARIABLES}
+use Rattle.pc_rows.proofs.Bounding.{product_within, sum_within, opposite_within, least_within, within_in_range, more_within, scale_within, add_within, negate_within, at_within, set_within, small_substitution_fits}
 use Rattle.pc_rows.proofs.Joining.{each_join}
 use Rattle.pc_language.specs.Ends.{end_of}
 use Rattle.pc_elim.proofs.SmallRows.{row_more, row_in_range}
@@ -34,39 +37,45 @@ zeros_within m (suc n) (z ∷ zs) h = (h.0, zeros_within m n zs h.1)
 abbrev carried_bound : ℕ → ℕ
 carried_bound m = m + m * m + m * m
 
-carried_within : (m : ℕ) (r form : Linear) (x : ℕ) (lo hi : ℤ) → Within m r → Within m form → IsWithin m lo → IsWithin m hi → Within (carried_bound m) (carried r x form (Some lo) (Some hi))
+carried_within : (m : ℕ) (r form : Linear) (x : ℕ) (lo hi : Option ℤ) → Within m r → Within m form → EndIsWithin m lo → EndIsWithin m hi → Within (carried_bound m) (carried r x form lo hi)
 carried_within m r form x lo hi hr hf hl hh =
     let c = coefficient r x in
     let hc = at_within m r.coefficients x hr.coefficients in
     let product = product_within m m c form.constant hc hf.constant in
-    let low = product_within m m c lo hc hl in
-    let high = product_within m m c hi hc hh in
     let zero_is_within : IsWithin m (pos 0) = omega (arith, ints) in
     record {
-      constant = sum_within (m + m * m) (m * m) (r.constant +ℤ c *ℤ form.constant) (lesser (c *ℤ lo) (c *ℤ hi))
-          (sum_within m (m * m) r.constant (c *ℤ form.constant) hr.constant product) (lesser_within (m * m) (c *ℤ lo) (c *ℤ hi) low high);
+      constant = sum_within (m + m * m) (m * m) (r.constant +ℤ c *ℤ form.constant) (least_product c lo hi)
+          (sum_within m (m * m) r.constant (c *ℤ form.constant) hr.constant product) (least_within m c lo hi hc hl hh);
       coefficients = more_within (m * m + m) (carried_bound m) (add_lists (scale_list c form.coefficients) (set r.coefficients x (pos 0))) (omega arith)
           (add_within (m * m) m (scale_list c form.coefficients) (set r.coefficients x (pos 0)) (scale_within m m c form.coefficients hc hf.coefficients)
           (set_within m r.coefficients x (pos 0) hr.coefficients zero_is_within));
     }
 
-substituted_within : (m : ℕ) (r form : Linear) (x : ℕ) (lo hi : ℤ) (t : Bool) → Within m r → Within m form → IsWithin m lo → IsWithin m hi →
-    Within (carried_bound m) (cond t r (carried r x form (Some lo) (Some hi)))
-substituted_within m r form x lo hi true hr hf hl hh = row_more m (carried_bound m) r (omega arith) hr
-substituted_within m r form x lo hi false hr hf hl hh = carried_within m r form x lo hi hr hf hl hh
+no_terms_within : (m n : ℕ) → AreWithin m (replicate n (pos 0))
+no_terms_within m zero = tt
+no_terms_within m (suc n) = (omega (arith, ints), no_terms_within m n)
+
+never_within : (m : ℕ) → 1 ≤ m → Within m never_row
+never_within m one = record { constant = omega (arith, ints); coefficients = no_terms_within m VARIABLES }
+
+substituted_within : (m : ℕ) (r form : Linear) (x : ℕ) (lo hi : Option ℤ) (none is_open : Bool) → 1 ≤ m → Within m r → Within m form → EndIsWithin m lo → EndIsWithin m hi →
+    Within (carried_bound m) (cond none r (cond is_open never_row (carried r x form lo hi)))
+substituted_within m r form x lo hi true is_open one hr hf hl hh = row_more m (carried_bound m) r (omega arith) hr
+substituted_within m r form x lo hi false true one hr hf hl hh = row_more m (carried_bound m) never_row (omega arith) (never_within m one)
+substituted_within m r form x lo hi false false one hr hf hl hh = carried_within m r form x lo hi hr hf hl hh
 
 back_within : (w : What) (r : Linear) → HasTameNumbers w → Within tame_bound r → Within (carried_bound tame_bound) (back w r)
 back_within (Enter params) r tame h =
     row_more tame_bound (carried_bound tame_bound) (back (Enter params) r) (omega arith) record { constant = h.constant; coefficients = zeros_within tame_bound params r.coefficients h.coefficients }
 back_within (Test own) r tame h = row_more tame_bound (carried_bound tame_bound) r (omega arith) h
 back_within (Check own) r tame h = row_more tame_bound (carried_bound tame_bound) r (omega arith) h
-back_within (Set x form lo hi) r tame h = substituted_within tame_bound r form x (end_of lo) (end_of hi) (is_zero (coefficient r x)) h tame.0 tame.1 tame.2
+back_within (Set x form lo hi) r tame h = substituted_within tame_bound r form x (end_of lo) (end_of hi) (is_zero (coefficient r x)) (needs_open_end (coefficient r x) (end_of lo) (end_of hi)) (omega arith) h tame.0 tame.1 tame.2
 
 back_fits : (w : What) (r : Linear) → HasTameNumbers w → Within tame_bound r → BackFits w r
 back_fits (Enter params) r tame h = tt
 back_fits (Test own) r tame h = tt
 back_fits (Check own) r tame h = tt
-back_fits (Set x form lo hi) r tame h = small_substitution_fits tame_bound r form x (Some (end_of lo)) (Some (end_of hi)) (omega arith) h tame.0 tame.1 tame.2
+back_fits (Set x form lo hi) r tame h = small_substitution_fits tame_bound r form x (end_of lo) (end_of hi) (omega arith) h tame.0 tame.1 tame.2
 
 -- their negations
 

@@ -1,7 +1,9 @@
 -- Carrying a row back over an edge is exact.
-use Rattle.std.proofs.Common.{◌≡◌, Some, pos, ◌≤ℤ◌, ◌+ℤ◌, List, [], ◌∷◌, length, refl, sym, ap, subst, ◌∙◌, length-set}
+use Rattle.std.proofs.Common.{◌≡◌, ℤ, pos, ◌≤ℤ◌, ◌+ℤ◌, List, [], ◌∷◌, length, refl, sym, ap, subst, ◌∙◌, length-set, arith, Option, Some, None}
 use Rattle.std.specs.Prelude.{slice_set}
 use Rattle.pc_rows.specs.Linear.{Linear, value, Meets, MeetsAll, zero_from}
+use Rattle.std.proofs.lemmas.Int.{ints}
+use Rattle.pc_rows.specs.Substitution.{IsNotBelow, IsNotAbove, AreOrdered}
 use Rattle.pc_rows.proofs.Carrying.{substitution_is_exact}
 use Rattle.pc_rows.proofs.First.{value_of_first, zero_from_long}
 use Rattle.pc_language.specs.Ends.{end_of}
@@ -12,6 +14,12 @@ use Rattle.pc_flow.specs.Carry.{back_all, HasVariable, CarryingIsExact, OwedIsEn
 use Rattle.pc_flow.specs.Walk.{Pass}
 
 -- a state keeps its length over an edge
+-- where some integer is chosen the closed ends are in order
+pub chosen_ordered : (lo hi : Option ℤ) (c : ℤ) → IsNotBelow lo c → IsNotAbove hi c → AreOrdered lo hi
+chosen_ordered None hi c h k = tt
+chosen_ordered (Some lo) None c h k = tt
+chosen_ordered (Some lo) (Some hi) c h k = omega (arith, ints)
+
 pub same_length : (w : What) (s t : State) → Pass w s t → length t ≡ length s
 same_length (Enter n) s t h = ap length h ∙ zero_from_long n s
 same_length (Test rows) s t h = ap length h.1
@@ -29,7 +37,7 @@ carrying_is_exact (Test rows) s r fit has = record { enough = λ m t h. subst (�
 carrying_is_exact (Check rows) s r fit has = record { enough = λ m t h. subst (λ t. Meets t r) (sym h.1) m; needed = λ a f. f s (a, refl) }
 carrying_is_exact (Set x f lo hi) s r fit has =
     let ordered = fit.1.ordered in
-    let law = substitution_is_exact r f x (Some (end_of lo)) (Some (end_of hi)) s has ordered in
+    let law = substitution_is_exact r f x (end_of lo) (end_of hi) s has ordered in
     record {
       enough = λ m t h. subst (λ t. Meets t r) (sym h.3) (law.0 m h.0 h.1 h.2);
       needed = λ a g. law.1 (λ c low high. g (slice_set s x (value f s +ℤ c)) (c, low, high, refl));

@@ -1,10 +1,8 @@
 -- Without tests and loops a state that breaks what is owed has a walk to an assertion that does not hold.
-use Rattle.std.proofs.Common.{◌≡◌, Some, ℕ, ◌+◌, ◌<◌, ◌≤◌, suc, zero, ℤ, pos, ◌≤ℤ◌, ◌+ℤ◌, ◌*ℤ◌, List, [], ◌∷◌, length, Bool, true, false, cond, refl, sym, ap, subst, ◌∙◌, arith, inl, inr}
-use Rattle.std.specs.Prelude.{◌⊎◌, slice_set, int_lt}
-use Rattle.std.proofs.lemmas.Int.{ints}
-use Rattle.pc_rows.specs.Linear.{Linear, value, Meets, MeetsAll, coefficient, is_zero, add_lists, scale_list, zero_from}
-use Rattle.pc_rows.specs.Substitution.{substituted, lesser}
-use Rattle.pc_rows.proofs.Carrying.{substitution_is_exact}
+use Rattle.std.proofs.Common.{◌≡◌, ℕ, ◌+◌, ◌<◌, ◌≤◌, suc, zero, pos, ◌≤ℤ◌, ◌+ℤ◌, List, [], ◌∷◌, length, refl, sym, ap, subst, ◌∙◌, arith, inl, inr}
+use Rattle.std.specs.Prelude.{◌⊎◌, slice_set}
+use Rattle.pc_rows.specs.Linear.{Linear, value, Meets, MeetsAll, zero_from}
+use Rattle.pc_rows.proofs.Carrying.{broken_choice}
 use Rattle.pc_rows.proofs.First.{value_of_first}
 use Rattle.pc_language.specs.Ends.{end_of}
 use Rattle.pc_rows.specs.Linear.{State}
@@ -27,39 +25,6 @@ in_back : (w : What) (r : Linear) (rows : List Linear) → In r (back_all w rows
 in_back w r [] m = absurd m
 in_back w r (x ∷ xs) (inl e) = (x, inl refl, e)
 in_back w r (x ∷ xs) (inr m) = let h = in_back w r xs m in (h.0, inr h.1, h.2)
-
-lesser_same : (a : ℤ) → lesser a a ≡ a
-lesser_same a = by (int_lt a a)
-  where
-    by : (b : Bool) → cond b a a ≡ a
-    by true = refl
-    by false = refl
-
--- an end of the choice at which the product is the lesser one
-lesser_at : (a lo hi : ℤ) → lo ≤ℤ hi → (c : ℤ) × (lo ≤ℤ c) × (c ≤ℤ hi) × (lesser (a *ℤ lo) (a *ℤ hi) ≡ lesser (a *ℤ c) (a *ℤ c))
-lesser_at a lo hi le = by (int_lt (a *ℤ hi) (a *ℤ lo))
-  where
-    by : (b : Bool) → (c : ℤ) × (lo ≤ℤ c) × (c ≤ℤ hi) × (cond b (a *ℤ hi) (a *ℤ lo) ≡ lesser (a *ℤ c) (a *ℤ c))
-    by true = (hi, le, omega (arith, ints), sym (lesser_same (a *ℤ hi)))
-    by false = (lo, omega (arith, ints), le, sym (lesser_same (a *ℤ lo)))
-
--- where a row carried back is broken, the successor at that end breaks the row
-set_breaks : (r f : Linear) (x : ℕ) (lo hi : ℤ) (s : State) → x < length s → lo ≤ℤ hi →
-    (Meets s (substituted r x f (Some lo) (Some hi)) → ⊥) → (c : ℤ) × (lo ≤ℤ c) × (c ≤ℤ hi) × (Meets (slice_set s x (value f s +ℤ c)) r → ⊥)
-set_breaks r f x lo hi s h le bad =
-    let c = lesser_at (coefficient r x) lo hi le in
-    let same = ap (λ (z : ℤ). cond (is_zero (coefficient r x)) r (record {
-      constant = r.constant +ℤ coefficient r x *ℤ f.constant +ℤ z;
-      coefficients = add_lists (scale_list (coefficient r x) f.coefficients) (slice_set r.coefficients x (pos 0));
-    })) c.3 in
-    let law = substitution_is_exact r f x (Some c.0) (Some c.0) s h (omega (arith, ints)) in (
-      c.0,
-      c.1,
-      c.2,
-      (λ m. bad (subst (Meets s) (sym same) (law.1 (λ d low high.
-          let e : c.0 ≡ d = omega (arith, ints) in
-          subst (λ d. Meets (slice_set s x (value f s +ℤ d)) r) e m)))),
-    )
 
 -- rows that are not met have a row that is not met
 broken_in : State → List Linear → Type 0
@@ -107,7 +72,7 @@ module _ (g : Flow) (a : PointRows) (s : State) (need : StraightNeed g a) where
           go t (subst (MeetsAll t) (sym free) tt, refl) h.0 h.1 (λ z. bad (subst (Meets t) (sym h.2) z))
       by (Set x f lo hi) same free fit has go k =
           let h = in_back (Set x f lo hi) r (a e.to) k in
-          let c = set_breaks h.0 f x (end_of lo) (end_of hi) t has fit.1.ordered (λ z. bad (subst (Meets t) (sym h.2) z)) in
+          let c = broken_choice h.0 f x (end_of lo) (end_of hi) t has fit.1.ordered (λ z. bad (subst (Meets t) (sym h.2) z)) in
           go (slice_set t x (value f t +ℤ c.0)) (c.0, c.1, c.2, refl) h.0 h.1 c.3
       by (Check own) same free fit has go k = by_check own same go (all_or_not own t) (in_either r own (a e.to) k)
 

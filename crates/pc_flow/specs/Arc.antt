@@ -1,9 +1,9 @@
 -- Edges, as contracts see them.
-use Rattle.std.specs.Prelude.{ℕ, ◌<◌, ◌≤◌, ◌≤ℤ◌, Bool, false, length}
+use Rattle.std.specs.Prelude.{ℕ, ◌<◌, ◌≤◌, Bool, false, length}
 use Rattle.pc_language.specs.declared.choice.Bound.{Bound}
 use Rattle.pc_language.specs.Ends.{end_of}
 use Rattle.pc_rows.specs.declared.row.TheConstants.{VARIABLES}
-use Rattle.pc_rows.specs.Linear.{InRange}
+use Rattle.pc_rows.specs.Substitution.{IsEnd, AreOrdered}
 pub use Rattle.pc_flow.specs.declared.what.What.{What}
 pub use Rattle.pc_flow.specs.declared.what.What.TheVariants.{Enter, Test, Set, Check}
 use Rattle.pc_flow.specs.declared.what.TheConstants.{TEST_ROWS}
@@ -22,11 +22,11 @@ marked b p q w = record { from = p; to = q; what = w; body = b }
 abbrev pub arc : ℕ → ℕ → What → Arc
 arc p q w = marked false p q w
 
--- the ends of a choice are in range and in order
+-- the closed ends of a choice are in range, and two of them in order
 pub record BoundsFit (lo hi : Bound) : Type 0 where
-  pub low : InRange (end_of lo)
-  pub high : InRange (end_of hi)
-  pub ordered : end_of lo ≤ℤ end_of hi
+  pub low : IsEnd (end_of lo)
+  pub high : IsEnd (end_of hi)
+  pub ordered : AreOrdered (end_of lo) (end_of hi)
 
 -- the limits that the type of edges keeps
 abbrev pub IsFit : What → Type 0

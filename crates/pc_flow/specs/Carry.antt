@@ -11,12 +11,12 @@ use Rattle.pc_flow.specs.Walk.{Pass, Keeps}
 abbrev pub back : What → Linear → Linear
 back (Enter params) r = first_of params r
 back (Test rows) r = r
-back (Set x form lo hi) r = substituted r x form (Some (end_of lo)) (Some (end_of hi))
+back (Set x form lo hi) r = substituted r x form (end_of lo) (end_of hi)
 back (Check rows) r = r
 
 -- each number that is computed for it is in range; only an assignment computes any
 abbrev pub BackFits : What → Linear → Type 0
-BackFits (Set x form lo hi) r = SubstituteFits r x form (Some (end_of lo)) (Some (end_of hi))
+BackFits (Set x form lo hi) r = SubstituteFits r x form (end_of lo) (end_of hi)
 BackFits (Enter params) r = Unit {0}
 BackFits (Test rows) r = Unit {0}
 BackFits (Check rows) r = Unit {0}

@@ -1,6 +1,7 @@
 -- Walks through a graph, and its safe entry states.
-use Rattle.std.specs.Prelude.{◌≡◌, ℕ, ◌-◌, ℤ, pos, ◌+ℤ◌, ◌≤ℤ◌, List, [], ◌∷◌, ◌++◌, length, slice_set, replicate}
+use Rattle.std.specs.Prelude.{◌≡◌, ℕ, ◌-◌, ℤ, pos, ◌+ℤ◌, List, [], ◌∷◌, ◌++◌, length, slice_set, replicate}
 use Rattle.pc_rows.specs.Linear.{value, MeetsAll, zero_from}
+use Rattle.pc_rows.specs.Substitution.{IsNotBelow, IsNotAbove}
 use Rattle.pc_language.specs.Ends.{end_of}
 use Rattle.pc_rows.specs.Linear.{State}
 use Rattle.pc_flow.specs.Arc.{What, Enter, Test, Set, Check, Arc}
@@ -11,7 +12,7 @@ use Rattle.pc_flow.specs.Lists.{In}
 abbrev pub Pass : What → State → State → Type 0
 Pass (Enter params) s t = t ≡ zero_from params s
 Pass (Test rows) s t = MeetsAll s rows × (t ≡ s)
-Pass (Set x form lo hi) s t = (c : ℤ) × (end_of lo ≤ℤ c) × (c ≤ℤ end_of hi) × (t ≡ slice_set s x (value form s +ℤ c))
+Pass (Set x form lo hi) s t = (c : ℤ) × IsNotBelow (end_of lo) c × IsNotAbove (end_of hi) c × (t ≡ slice_set s x (value form s +ℤ c))
 Pass (Check rows) s t = MeetsAll s rows × (t ≡ s)
 
 -- what an edge asserts of the states at the point that it leaves

@@ -2,13 +2,12 @@
 
 ghost use Rattle.std.specs.Prelude.{◌≡◌, OkIff};
 ghost use Rattle.pc_rows.specs.Linear.{first_of};
-ghost use Rattle.pc_language.specs.Ends.{end_of};
 ghost use Rattle.pc_flow.specs.Carry.{BackFits, back};
 
 use crate::edge::Edge;
 use crate::graph::Graph;
 use crate::what::What;
-use pc_language::Bound;
+use pc_language::end_of;
 use pc_rows::{Past, Row, substitute};
 
 /// A row at the target of an edge as a row at its source. A state meets it exactly where every state to which the edge
@@ -20,23 +19,9 @@ pub fn back(e: &Edge, r: &Row) -> Result<Row, Past>
     match &e.what {
         What::Enter { params } => Ok(r.first(*params)),
         What::Test(_) => Ok(r.copy()),
-        What::Set { var, form, lo, hi } => substitute(
-            r,
-            *var,
-            form,
-            Some(end(*lo)),
-            Some(end(*hi)),
-        ),
+        What::Set { var, form, lo, hi } => substitute(r, *var, form, end_of(*lo), end_of(*hi)),
         What::Check(_) => Ok(r.copy()),
     }
-}
-
-/// The integer at an end of a choice.
-fn end(bound: Bound) -> i128
-    ensures { result ≡ end_of bound }
-{
-    let Bound::At(n) = bound;
-    n
 }
 
 /// A row at the entry over the parameters alone: the locals are 0 there. It needs no memory.

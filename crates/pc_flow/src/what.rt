@@ -15,7 +15,7 @@ pub enum What {
     },
     /// Passed where all rows are at least 0.
     Test(Rows),
-    /// The variable becomes the value of the form plus some integer from `lo` to `hi`. Without a choice both are 0.
+    /// The variable becomes the value of the form plus some integer from `lo` to `hi`, of which either may be open. Without a choice both are 0.
     Set {
         var: u32,
         form: Row,

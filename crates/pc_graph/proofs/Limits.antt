@@ -4,6 +4,7 @@ use Rattle.std.specs.Prelude.{◌&&◌, Option, Some, None}
 use Rattle.std.specs.List.{AllByRecursion as Each}
 use Rattle.pc_language.specs.declared.choice.Bound.{Bound}
 use Rattle.pc_language.specs.declared.choice.Bound.TheVariants as bound
+use Rattle.pc_language.specs.Ends.{end_of}
 use Rattle.pc_language.specs.declared.choice.Choice.{Choice}
 use Rattle.pc_rows.specs.Linear.{Linear, IsOver, in_range}
 use Rattle.pc_rows.specs.declared.row.TheConstants.{VARIABLES}
@@ -49,11 +50,14 @@ test_has (test.All cs) = way_of_has (is_lone cs) (rows_all cs)
 
 -- ---- assignments
 
-ends_fit : (lo hi : Bound) → in_order lo hi ≡ true → BoundsFit lo hi
+ends_fit : (lo hi : Bound) → in_order (end_of lo) (end_of hi) ≡ true → BoundsFit lo hi
 ends_fit (bound.At lo) (bound.At hi) h =
     let a = and_is (in_range lo) (in_range hi && int_le lo hi) h in
     let b = and_is (in_range hi) (int_le lo hi) a.1 in
     record { low = is_in lo a.0; high = is_in hi b.0; ordered = le_is lo hi b.1 }
+ends_fit (bound.At lo) bound.Open h = record { low = is_in lo h; high = tt; ordered = tt }
+ends_fit bound.Open (bound.At hi) h = record { low = tt; high = is_in hi h; ordered = tt }
+ends_fit bound.Open bound.Open h = record { low = tt; high = tt; ordered = tt }
 
 choice_fits : (o : Option Choice) → sane_choice o ≡ true → BoundsFit (low_end o) (high_end o)
 choice_fits None h = ends_fit (bound.At (pos 0)) (bound.At (pos 0)) refl

@@ -1,5 +1,5 @@
 -- Without loops the need pays every edge, and each of its rows is owed.
-use Rattle.std.proofs.Common.{◌≡◌, Some, ℕ, suc, zero, List, [], ◌∷◌, ◌++◌, sym, refl, subst, cond, Bool, true, false, arith, inl, inr, ℤ, pos, ◌≤ℤ◌}
+use Rattle.std.proofs.Common.{◌≡◌, ℕ, suc, zero, List, [], ◌∷◌, ◌++◌, sym, refl, subst, cond, Bool, true, false, arith, inl, inr, ℤ, pos, ◌≤ℤ◌}
 use Rattle.std.specs.Prelude.{◌⊎◌, not, filter}
 use Rattle.std.specs.List.{AllByRecursion as Each}
 use Rattle.std.proofs.lemmas.Int.{ints}
@@ -19,6 +19,7 @@ use Rattle.pc_flow.specs.Exact.{PointRows}
 use Rattle.pc_flow.specs.Lists.{In}
 use Rattle.pc_flow.specs.Shape.{LeadsUp}
 use Rattle.pc_flow.specs.Walk.{Pass}
+use Rattle.pc_flow.proofs.Carrying.{chosen_ordered}
 use Rattle.pc_flow.proofs.Lists.{each_at, each_in, in_either}
 use Rattle.pc_flow.proofs.Assigning.{has_variable}
 use Rattle.pc_flow.specs.Annotation.{rows_at}
@@ -51,8 +52,8 @@ passes (Check own) s t (r ∷ rows) has pass m = (subst (λ (z : State). Meets z
 passes (Set x form lo hi) s t (r ∷ rows) has pass m =
     let low = pass.1 in
     let high = pass.2 in
-    let ordered : end_of lo ≤ℤ end_of hi = omega (arith, ints) in (
-      subst (λ (z : State). Meets z r) (sym pass.3) ((substitution_is_exact r form x (Some (end_of lo)) (Some (end_of hi)) s has ordered).0 m.0 pass.0 low high),
+    let ordered = chosen_ordered (end_of lo) (end_of hi) pass.0 low high in (
+      subst (λ (z : State). Meets z r) (sym pass.3) ((substitution_is_exact r form x (end_of lo) (end_of hi) s has ordered).0 m.0 pass.0 low high),
       passes (Set x form lo hi) s t rows has pass m.1,
     )
 

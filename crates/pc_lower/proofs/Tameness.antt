@@ -1,5 +1,5 @@
 -- With tame numbers no operation of a need without loops leaves the range or has a row too many.
-use Rattle.std.proofs.Common.{◌≡◌, Some, ℕ, suc, zero, ◌+◌, ◌*◌, ◌^◌, ◌<◌, ◌≤◌, List, [], ◌∷◌, ◌++◌, length, sym, subst, cond, Bool, arith, lit<}
+use Rattle.std.proofs.Common.{◌≡◌, ℕ, suc, zero, ◌+◌, ◌*◌, ◌^◌, ◌<◌, ◌≤◌, List, [], ◌∷◌, ◌++◌, length, sym, subst, cond, Bool, arith, lit<}
 use Rattle.std.specs.List.{AllByRecursion as Each}
 use Rattle.pc_rows.specs.Linear.{Linear}
 use Rattle.pc_rows.specs.Bounds.{AllWithin}
@@ -35,7 +35,7 @@ carries_fit (Enter params) (r ∷ rows) own h = (tt, carries_fit (Enter params) 
 carries_fit (Test rows) (r ∷ more) own h = (tt, carries_fit (Test rows) more own h.1)
 carries_fit (Check rows) (r ∷ more) own h = (tt, carries_fit (Check rows) more own h.1)
 carries_fit (Set x form lo hi) (r ∷ rows) own h =
-    (small_substitution_fits tame_bound r form x (Some (end_of lo)) (Some (end_of hi)) small h.0 own.0 own.1 own.2, carries_fit (Set x form lo hi) rows own h.1)
+    (small_substitution_fits tame_bound r form x (end_of lo) (end_of hi) small h.0 own.0 own.1 own.2, carries_fit (Set x form lo hi) rows own h.1)
 
 gathered-longer : (a : PointRows) (rows : List Linear) (edges : List Arc) → length rows ≤ length (gathered a rows edges)
 gathered-longer a rows [] = omega arith

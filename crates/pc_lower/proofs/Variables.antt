@@ -65,7 +65,7 @@ back_over n (Enter params) (r ∷ rows) over h = (fewer_over params n (first_of 
 back_over n (Test own) (r ∷ rows) over h = (h.0, back_over n (Test own) rows over h.1)
 back_over n (Check own) (r ∷ rows) over h = (h.0, back_over n (Check own) rows over h.1)
 back_over n (Set x form lo hi) (r ∷ rows) over h =
-    (substituted_is_over n r form x (Some (end_of lo)) (Some (end_of hi)) h.0 over.1, back_over n (Set x form lo hi) rows over h.1)
+    (substituted_is_over n r form x (end_of lo) (end_of hi) h.0 over.1, back_over n (Set x form lo hi) rows over h.1)
 
 demanded_over : (n : ℕ) (w : What) (rows : List Linear) → WhatIsOver n w → Each (IsOver n) rows → Each (IsOver n) (demanded w rows)
 demanded_over n (Enter params) rows over h = back_over n (Enter params) rows over h

@@ -3,7 +3,8 @@ use Rattle.std.specs.Prelude.{◌≤◌, ◌^◌, ℕ, List, length}
 use Rattle.std.specs.List.{AllByRecursion as Each}
 use Rattle.pc_language.specs.Ends.{end_of}
 use Rattle.pc_rows.specs.Linear.{Linear}
-use Rattle.pc_rows.specs.Bounds.{IsWithin, Within, AllWithin}
+use Rattle.pc_rows.specs.Bounds.{Within, AllWithin}
+use Rattle.pc_rows.specs.Laws.{EndIsWithin}
 use Rattle.pc_rows.specs.declared.rows.TheConstants.{ROWS}
 use Rattle.pc_flow.specs.declared.what.What.{What}
 use Rattle.pc_flow.specs.declared.what.What.TheVariants.{Enter, Test, Set, Check}
@@ -15,11 +16,11 @@ use Rattle.pc_lower.specs.Need.{need}
 abbrev pub tame_bound : ℕ
 tame_bound = 2 ^ 60
 
--- the numbers of an edge are tame
+-- the numbers of an edge are tame; of an open end nothing is asked
 abbrev pub HasTameNumbers : What → Type 0
 HasTameNumbers (Enter params) = Unit {0}
 HasTameNumbers (Test rows) = AllWithin tame_bound rows
-HasTameNumbers (Set x form lo hi) = Within tame_bound form × IsWithin tame_bound (end_of lo) × IsWithin tame_bound (end_of hi)
+HasTameNumbers (Set x form lo hi) = Within tame_bound form × EndIsWithin tame_bound (end_of lo) × EndIsWithin tame_bound (end_of hi)
 HasTameNumbers (Check rows) = AllWithin tame_bound rows
 
 -- rows that are not too many, with tame numbers

@@ -1,5 +1,5 @@
 -- What holds of each item of a list, as a test and as a fact.
-use Rattle.std.proofs.Common.{◌≡◌, ℕ, zero, suc, subst, slice_get, ◌+◌, ℤ, pos, List, [], ◌∷◌, Bool, true, false, cond, refl, Option, Some, None}
+use Rattle.std.proofs.Common.{◌≡◌, ℕ, ◌+◌, ℤ, pos, List, [], ◌∷◌, Bool, true, false, cond, refl, Option, Some, None}
 use Rattle.std.specs.Prelude.{◌||◌}
 use Rattle.std.specs.Bool.{MatchBool}
 use Rattle.std.specs.List.{AllByRecursion, list_all, position_from}
@@ -41,9 +41,3 @@ passes_none t n (x ∷ xs) h = rw (h.0) (passes_none t (n + 1) xs h.1)
 
 pub zero_test : (c : ℤ) → c ≡ pos 0 → is_zero c ≡ true
 zero_test c h = rw h refl
-
--- what holds of each item holds of the one at a place
-pub each_got : {A : Type 0} (P : A → Type 0) (xs : List A) (i : ℕ) (x : A) → AllByRecursion P xs → slice_get xs i ≡ Some x → P x
-each_got P [] i x h got = absurd (cc)
-each_got P (y ∷ xs) zero x h got = let same : y ≡ x = cc in subst P same h.0
-each_got P (y ∷ xs) (suc i) x h got = each_got P xs i x h.1 got

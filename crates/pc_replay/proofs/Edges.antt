@@ -1,43 +1,32 @@
 -- The turns of the loops over the rows that an edge owes, and over the edges of an alternative.
-use Rattle.std.proofs.Common.{◌≡◌, ℕ, ◌+◌, ◌<◌, ◌≤◌, List, ◌++◌, drop, get_or, length, refl, sym, ap, ◌∙◌, arith, slice_get, Some, None}
+use Rattle.std.proofs.Common.{◌≡◌, ℕ, ◌+◌, ◌<◌, ◌≤◌, List, drop, get_or, length, refl, sym, ap, ◌∙◌, arith, slice_get, Some, None}
 use Rattle.std.specs.List.{zip}
 use Rattle.std.proofs.lemmas.Bool.Decides.{Decides-eqb}
-use Rattle.std.proofs.lemmas.List.{length-map}
 use Rattle.std.proofs.lemmas.Option.{slice_get_read}
 use Rattle.std.proofs.lemmas.Slice.Zip.{length-zip}
 use Rattle.pc_rows.specs.Linear.{Linear}
 use Rattle.pc_rows.specs.Evidence.{Proof}
 use Rattle.pc_flow.specs.Arc.{Arc}
-use Rattle.pc_flow.specs.declared.what.What.{What}
-use Rattle.pc_flow.specs.declared.what.What.TheVariants.{Enter, Test, Set, Check}
-use Rattle.pc_flow.specs.Carry.{back, owes, test_rows}
+use Rattle.pc_flow.specs.Carry.{owes}
 use Rattle.pc_flow.specs.Flow.{Flow}
-use Rattle.pc_flow.specs.Shape.{LeadsUp, IsGraph}
 use Rattle.pc_certificate.specs.declared.certificate.Annotated.{Annotated}
 use Rattle.pc_replay.specs.declared.flaw.Flaw.{Flaw}
 use Rattle.pc_replay.specs.declared.ruling.Ruling.{Ruling}
 use Rattle.pc_replay.specs.declared.ruling.Ruling.TheVariants as answer
 use Rattle.pc_replay.specs.Shape.{first_beyond}
-use Rattle.pc_replay.specs.Flaws.{asked, row_flaw}
-use Rattle.pc_replay.specs.Rule.{rows_at, told, first_refusal, in_order, refusal, premises, row_ruling, edge_ruling, alternative_ruling}
-use Rattle.pc_replay.proofs.Ruled.{told_refuses, owed_is_asked}
+use Rattle.pc_flow.specs.Carry.{asked}
+use Rattle.pc_replay.specs.Flaws.{row_flaw}
+use Rattle.pc_flow.specs.Annotation.{rows_at}
+use Rattle.pc_flow.specs.Carry.{premises}
+use Rattle.pc_replay.specs.Rule.{told, first_refusal, in_order, refusal, row_ruling, edge_ruling, alternative_ruling}
+use Rattle.pc_replay.proofs.Ruled.{told_refuses}
 use Rattle.pc_replay.proofs.Turns.{refused_here, ruling_goes_on, ruled_all, got_pair}
-use Rattle.pc_replay.proofs.Alls.{each_got}
-
-pub asked_else : (w : What) (rows : List Linear) → ((own : List Linear) → w ≡ Check own → ⊥) → asked w rows ≡ rows
-asked_else (Enter params) rows h = refl
-asked_else (Test own) rows h = refl
-asked_else (Set x form lo hi) rows h = refl
-asked_else (Check own) rows h = absurd (h own refl)
-
-pub owed_long : (w : What) (rows : List Linear) → length (owes w rows) ≡ length (asked w rows)
-owed_long w rows = ap (length {A = Linear}) (owed_is_asked w rows) ∙ length-map (asked w rows) (back w)
 
 -- the code has the rows of both ends of the edge
 module _ (n : ℕ) (a : Annotated) (i : ℕ) (e : Arc) (proofs : List Proof) (source target : List Linear)
-    (at_source : source ≡ rows_at a e.from) (at_target : target ≡ rows_at a e.to) (counted : length proofs ≡ length (owes e.what target)) where
+    (at_source : source ≡ rows_at a.rows e.from) (at_target : target ≡ rows_at a.rows e.to) (counted : length proofs ≡ length (owes e.what target)) where
   abbrev rows : List (Linear × Proof)
-  rows = zip (asked e.what (rows_at a e.to)) proofs
+  rows = zip (asked e.what (rows_at a.rows e.to)) proofs
 
   abbrev whole : Ruling
   whole = in_order (row_ruling n a i e) 0 rows
@@ -45,29 +34,29 @@ module _ (n : ℕ) (a : Annotated) (i : ℕ) (e : Arc) (proofs : List Proof) (so
   counted_edge : (r : Ruling) → r ≡ whole → r ≡ edge_ruling n a i (e, proofs)
   counted_edge r h =
       let owed = counted ∙ ap (λ rows. length (owes e.what rows)) at_target in
-      h ∙ sym (rw ((Decides-eqb (length proofs) (length (owes e.what (rows_at a e.to)))).1 owed) refl)
+      h ∙ sym (rw ((Decides-eqb (length proofs) (length (owes e.what (rows_at a.rows e.to)))).1 owed) refl)
 
   pub edge_accepts : (k : ℕ) → length proofs ≤ k → in_order (row_ruling n a i e) k (drop k rows) ≡ whole → answer.Accepted ≡ edge_ruling n a i (e, proofs)
   edge_accepts k all rest =
-      let long = length-zip (asked e.what (rows_at a e.to)) proofs in
+      let long = length-zip (asked e.what (rows_at a.rows e.to)) proofs in
       counted_edge answer.Accepted (ruled_all (row_ruling n a i e) rows k _ (omega arith) rest)
 
   module _ (k : ℕ) (r : Linear) (p : Proof) (within : k < length proofs) (row : slice_get (asked e.what target) k ≡ Some r) (proof : p ≡ get_or proofs k p)
       (rest : in_order (row_ruling n a i e) k (drop k rows) ≡ whole) where
     pair : slice_get rows k ≡ Some (r, p)
     pair =
-        got_pair (asked e.what (rows_at a e.to)) proofs k r p (ap (λ rows. slice_get (asked e.what rows) k) (sym at_target) ∙ row)
+        got_pair (asked e.what (rows_at a.rows e.to)) proofs k r p (ap (λ rows. slice_get (asked e.what rows) k) (sym at_target) ∙ row)
         (slice_get_read proofs (length proofs) k p refl within proof)
 
-    flaw_is : row_flaw e.what (source ++ test_rows e.what) r p ≡ row_flaw e.what (premises a e) r p
-    flaw_is = ap (λ rows. row_flaw e.what (rows ++ test_rows e.what) r p) at_source
+    flaw_is : row_flaw e.what (premises e.what source) r p ≡ row_flaw e.what (premises e.what (rows_at a.rows e.from)) r p
+    flaw_is = ap (λ rows. row_flaw e.what (premises e.what rows) r p) at_source
 
-    pub edge_refuses : (f : Flaw) → Some f ≡ row_flaw e.what (source ++ test_rows e.what) r p → told n i k f ≡ edge_ruling n a i (e, proofs)
+    pub edge_refuses : (f : Flaw) → Some f ≡ row_flaw e.what (premises e.what source) r p → told n i k f ≡ edge_ruling n a i (e, proofs)
     edge_refuses f found =
         let is : told n i k f ≡ row_ruling n a i e k (r, p) = ap (refusal (told n i k)) (found ∙ flaw_is) in
         counted_edge (told n i k f) (is ∙ refused_here rows k (r, p) pair (row_ruling n a i e) _ (λ accepts. told_refuses n i k f (is ∙ accepts)) rest)
 
-    pub edge_goes_on : None ≡ row_flaw e.what (source ++ test_rows e.what) r p → in_order (row_ruling n a i e) (k + 1) (drop (k + 1) rows) ≡ whole
+    pub edge_goes_on : None ≡ row_flaw e.what (premises e.what source) r p → in_order (row_ruling n a i e) (k + 1) (drop (k + 1) rows) ≡ whole
     edge_goes_on nothing = ruling_goes_on rows k (r, p) pair (row_ruling n a i e) _ (ap (refusal (told n i k)) (sym (nothing ∙ flaw_is))) rest
 
 -- an alternative whose entry is over the parameters
@@ -78,10 +67,10 @@ module _ (g : Flow) (n : ℕ) (a : Annotated) where
   abbrev all_edges : Ruling
   all_edges = in_order (edge_ruling n a) 0 edges
 
-  pub entry_refuses : (k : ℕ) → Some k ≡ first_beyond g.params (rows_at a 0) → answer.Entry n k ≡ alternative_ruling g n a
+  pub entry_refuses : (k : ℕ) → Some k ≡ first_beyond g.params (rows_at a.rows 0) → answer.Entry n k ≡ alternative_ruling g n a
   entry_refuses k found = ap (λ o. first_refusal (refusal (answer.Entry n) o) all_edges) found
 
-  module _ (entry : None ≡ first_beyond g.params (rows_at a 0)) where
+  module _ (entry : None ≡ first_beyond g.params (rows_at a.rows 0)) where
     after_entry : (r : Ruling) → r ≡ all_edges → r ≡ alternative_ruling g n a
     after_entry r h = h ∙ ap (λ o. first_refusal (refusal (answer.Entry n) o) all_edges) entry
 
@@ -98,9 +87,3 @@ module _ (g : Flow) (n : ℕ) (a : Annotated) where
 
       pub alternative_goes_on : r ≡ answer.Accepted → in_order (edge_ruling n a) (i + 1) (drop (i + 1) edges) ≡ all_edges
       alternative_goes_on accepts = ruling_goes_on edges i (e, proofs) (got_pair g.edges a.proofs i e proofs edge proof) (edge_ruling n a) _ (sym is ∙ accepts) rest
-
--- each edge joins two of the points
-pub edge_within : (g : Flow) (i : ℕ) (e : Arc) → IsGraph g → slice_get g.edges i ≡ Some e → (e.from < length g.points) × (e.to < length g.points)
-edge_within g i e kept got =
-    let leads = each_got (LeadsUp g.points g.variables) g.edges i e kept.leads got in
-    (leads.leaves, leads.reaches)

@@ -1,14 +1,11 @@
 -- The rule accepts exactly where nothing is wrong.
-use Rattle.std.proofs.Common.{◌≡◌, ℕ, ◌+◌, List, [], ◌∷◌, ◌++◌, map, Bool, true, false, length, refl, ap, ◌==◌, Option, Some, None}
+use Rattle.std.proofs.Common.{◌≡◌, ℕ, ◌+◌, List, [], ◌∷◌, Bool, true, false, length, refl, ◌==◌, Option, Some, None}
 use Rattle.std.specs.List.{AllByRecursion, zip}
 use Rattle.std.proofs.lemmas.Bool.{eqb-true}
 use Rattle.std.proofs.lemmas.Bool.Decides.{Decides-eqb}
-use Rattle.pc_rows.specs.Linear.{Linear}
 use Rattle.pc_rows.specs.Evidence.{Proof}
 use Rattle.pc_flow.specs.Arc.{Arc}
-use Rattle.pc_flow.specs.declared.what.What.{What}
-use Rattle.pc_flow.specs.declared.what.What.TheVariants.{Enter, Test, Set, Check}
-use Rattle.pc_flow.specs.Carry.{back, back_all, owes}
+use Rattle.pc_flow.specs.Carry.{owes}
 use Rattle.pc_flow.specs.Flow.{Flow}
 use Rattle.pc_certificate.specs.declared.certificate.Annotated.{Annotated}
 use Rattle.pc_replay.specs.declared.flaw.Flaw.{Flaw}
@@ -16,10 +13,13 @@ use Rattle.pc_replay.specs.declared.flaw.Flaw.TheVariants as flaw
 use Rattle.pc_replay.specs.declared.ruling.Ruling.{Ruling}
 use Rattle.pc_replay.specs.declared.ruling.Ruling.TheVariants as answer
 use Rattle.pc_replay.specs.Shape.{first_beyond, has_shape}
-use Rattle.pc_replay.specs.Flaws.{needs, asked, row_flaw}
-use Rattle.pc_replay.specs.Rule.{rows_at, told, first_refusal, in_order, refusal, premises, row_ruling, edge_ruling, alternative_ruling}
+use Rattle.pc_flow.specs.Carry.{asked}
+use Rattle.pc_replay.specs.Flaws.{needs, row_flaw}
+use Rattle.pc_flow.specs.Annotation.{rows_at}
+use Rattle.pc_flow.specs.Carry.{premises}
+use Rattle.pc_replay.specs.Rule.{told, first_refusal, in_order, refusal, row_ruling, edge_ruling, alternative_ruling}
 use Rattle.pc_replay.specs.Accepts.{RowProved, EdgeProved, AlternativeProved}
-use Rattle.pc_replay.specs.Laws.{RuleIsMeant, OwedIsAsked}
+use Rattle.pc_replay.specs.Laws.{RuleIsMeant}
 use Rattle.pc_replay.proofs.Flawless.{flaws_are_meant}
 use Rattle.pc_replay.proofs.Shaped.{none_beyond_if, if_none_beyond, shape_if, if_shape}
 
@@ -84,30 +84,30 @@ ruled_each f P one n (x ∷ xs) h = accepts_first (f n x) (in_order f (n + 1) xs
 
 module _ (n : ℕ) (a : Annotated) (i : ℕ) (e : Arc) (proofs : List Proof) where
   abbrev on_rows : Ruling
-  on_rows = in_order (row_ruling n a i e) 0 (zip (asked e.what (rows_at a e.to)) proofs)
+  on_rows = in_order (row_ruling n a i e) 0 (zip (asked e.what (rows_at a.rows e.to)) proofs)
 
   edge_proved : edge_ruling n a i (e, proofs) ≡ answer.Accepted → EdgeProved a e proofs
   edge_proved h =
-      let count = length proofs == length (owes e.what (rows_at a e.to)) in
+      let count = length proofs == length (owes e.what (rows_at a.rows e.to)) in
       let g = needed count (answer.Count n i) on_rows (count_refuses n i) h in
       record {
-        count = eqb-true (length proofs) (length (owes e.what (rows_at a e.to))) g.0;
-        each = each_ruled (row_ruling n a i e) (λ x. RowProved e.what (premises a e) x.0 x.1)
-            (λ k y r. (flaws_are_meant e.what (premises a e) y.0 y.1).0 (nothing_found (told n i k) (row_flaw e.what (premises a e) y.0 y.1) (told_refuses n i k) r))
-            0 (zip (asked e.what (rows_at a e.to)) proofs) g.1;
+        count = eqb-true (length proofs) (length (owes e.what (rows_at a.rows e.to))) g.0;
+        each = each_ruled (row_ruling n a i e) (λ x. RowProved e.what (premises e.what (rows_at a.rows e.from)) x.0 x.1)
+            (λ k y r. (flaws_are_meant e.what (premises e.what (rows_at a.rows e.from)) y.0 y.1).0 (nothing_found (told n i k) (row_flaw e.what (premises e.what (rows_at a.rows e.from)) y.0 y.1) (told_refuses n i k) r))
+            0 (zip (asked e.what (rows_at a.rows e.to)) proofs) g.1;
       }
 
   proved_edge : EdgeProved a e proofs → edge_ruling n a i (e, proofs) ≡ answer.Accepted
   proved_edge h =
-      needs_met (length proofs == length (owes e.what (rows_at a e.to))) (answer.Count n i) on_rows
-      ((Decides-eqb (length proofs) (length (owes e.what (rows_at a e.to)))).1 h.count)
-      (ruled_each (row_ruling n a i e) (λ x. RowProved e.what (premises a e) x.0 x.1)
-      (λ k y r. found_nothing (told n i k) (row_flaw e.what (premises a e) y.0 y.1) ((flaws_are_meant e.what (premises a e) y.0 y.1).1 r))
-      0 (zip (asked e.what (rows_at a e.to)) proofs) h.each)
+      needs_met (length proofs == length (owes e.what (rows_at a.rows e.to))) (answer.Count n i) on_rows
+      ((Decides-eqb (length proofs) (length (owes e.what (rows_at a.rows e.to)))).1 h.count)
+      (ruled_each (row_ruling n a i e) (λ x. RowProved e.what (premises e.what (rows_at a.rows e.from)) x.0 x.1)
+      (λ k y r. found_nothing (told n i k) (row_flaw e.what (premises e.what (rows_at a.rows e.from)) y.0 y.1) ((flaws_are_meant e.what (premises e.what (rows_at a.rows e.from)) y.0 y.1).1 r))
+      0 (zip (asked e.what (rows_at a.rows e.to)) proofs) h.each)
 
 module _ (g : Flow) (n : ℕ) (a : Annotated) where
   abbrev on_entry : Ruling
-  on_entry = refusal (answer.Entry n) (first_beyond g.params (rows_at a 0))
+  on_entry = refusal (answer.Entry n) (first_beyond g.params (rows_at a.rows 0))
 
   abbrev on_edges : Ruling
   on_edges = in_order (edge_ruling n a) 0 (zip g.edges a.proofs)
@@ -116,14 +116,14 @@ module _ (g : Flow) (n : ℕ) (a : Annotated) where
   alternative_proved h =
       let k = first_accepts on_entry on_edges h in
       record {
-        entry = none_beyond_if g.params (rows_at a 0) (nothing_found (answer.Entry n) (first_beyond g.params (rows_at a 0)) (entry_refuses n) k.0);
+        entry = none_beyond_if g.params (rows_at a.rows 0) (nothing_found (answer.Entry n) (first_beyond g.params (rows_at a.rows 0)) (entry_refuses n) k.0);
         edges = each_ruled (edge_ruling n a) (λ x. EdgeProved a x.0 x.1) (λ i x r. edge_proved n a i x.0 x.1 r) 0 (zip g.edges a.proofs) k.1;
       }
 
   proved_alternative : AlternativeProved g a → alternative_ruling g n a ≡ answer.Accepted
   proved_alternative h =
       accepts_first on_entry on_edges
-      (found_nothing (answer.Entry n) (first_beyond g.params (rows_at a 0)) (if_none_beyond g.params (rows_at a 0) h.entry))
+      (found_nothing (answer.Entry n) (first_beyond g.params (rows_at a.rows 0)) (if_none_beyond g.params (rows_at a.rows 0) h.entry))
       (ruled_each (edge_ruling n a) (λ x. EdgeProved a x.0 x.1) (λ i x r. proved_edge n a i x.0 x.1 r) 0 (zip g.edges a.proofs) h.edges)
 
 pub rule_is_meant : RuleIsMeant
@@ -135,17 +135,3 @@ rule_is_meant g c = (
       needs_met (has_shape g c) answer.Shape (in_order (alternative_ruling g) 0 c.alternatives) (if_shape g c h.shape)
       (ruled_each (alternative_ruling g) (AlternativeProved g) (proved_alternative g) 0 c.alternatives h.each),
 )
-
-back_all_is : (w : What) (rows : List Linear) → back_all w rows ≡ map (back w) rows
-back_all_is w [] = refl
-back_all_is w (r ∷ rows) = ap (λ z. back w r ∷ z) (back_all_is w rows)
-
-asserted : (own rows : List Linear) → rows ≡ map (back (Check own)) rows
-asserted own [] = refl
-asserted own (r ∷ rows) = ap (λ z. r ∷ z) (asserted own rows)
-
-pub owed_is_asked : OwedIsAsked
-owed_is_asked (Enter params) rows = back_all_is (Enter params) rows
-owed_is_asked (Test own) rows = back_all_is (Test own) rows
-owed_is_asked (Set x form lo hi) rows = back_all_is (Set x form lo hi) rows
-owed_is_asked (Check own) rows = asserted own (own ++ rows)

@@ -1,5 +1,5 @@
 -- Whatever the rule accepts is safe.
-use Rattle.std.proofs.Common.{◌≡◌, Some, ℕ, ◌+◌, ◌-◌, ◌≤◌, pos, ◌≤ℤ◌, List, [], ◌∷◌, ◌++◌, map, length, get_or, refl, sym, ap, subst, ◌∙◌, arith, length-append, inl, inr}
+use Rattle.std.proofs.Common.{◌≡◌, ℕ, ◌-◌, pos, ◌≤ℤ◌, List, [], ◌∷◌, ◌++◌, map, length, get_or, refl, sym, ap, subst, ◌∙◌, arith, length-append, inl, inr}
 use Rattle.std.specs.Prelude.{replicate}
 use Rattle.std.specs.List.{AllByRecursion, zip}
 use Rattle.std.proofs.lemmas.Int.{ints}
@@ -20,17 +20,19 @@ use Rattle.pc_flow.specs.Flow.{Flow}
 use Rattle.pc_flow.specs.Lists.{In}
 use Rattle.pc_flow.specs.Shape.{IsGraph}
 use Rattle.pc_flow.specs.Walk.{Pass, IsEntry, entered, GraphSafe}
+use Rattle.pc_flow.proofs.Carrying.{chosen_ordered}
 use Rattle.pc_flow.proofs.Closed.{paid_is_safe}
 use Rattle.pc_flow.proofs.Lists.{each_at}
 use Rattle.pc_certificate.specs.declared.certificate.Annotated.{Annotated}
 use Rattle.pc_certificate.specs.Certificate.{entry_rows}
 use Rattle.pc_flow.proofs.Assigning.{has_variable}
 use Rattle.pc_replay.specs.Accepts.{RowProved, EdgeProved, AlternativeProved}
-use Rattle.pc_replay.specs.Flaws.{asked}
+use Rattle.pc_flow.specs.Carry.{asked}
 use Rattle.pc_replay.specs.Laws.{AcceptedIsSafe}
-use Rattle.pc_replay.specs.Rule.{rows_at, premises}
+use Rattle.pc_flow.specs.Annotation.{rows_at}
+use Rattle.pc_flow.specs.Carry.{premises}
 use Rattle.pc_replay.specs.Shape.{IsShaped}
-use Rattle.pc_replay.proofs.Ruled.{owed_is_asked}
+use Rattle.pc_flow.proofs.Asked.{owed_is_asked}
 
 -- a state that meets a row carried back leads to states that meet the row
 back_meets : (w : What) (s t : State) (r : Linear) → HasVariable w s → Pass w s t → Meets s (back w r) → Meets t r
@@ -40,8 +42,8 @@ back_meets (Check own) s t r has pass m = subst (λ t. Meets t r) (sym pass.1) m
 back_meets (Set x f lo hi) s t r has pass m =
     let low = pass.1 in
     let high = pass.2 in
-    let ordered : end_of lo ≤ℤ end_of hi = omega (arith, ints) in
-    subst (λ t. Meets t r) (sym pass.3) ((substitution_is_exact r f x (Some (end_of lo)) (Some (end_of hi)) s has ordered).0 m pass.0 low high)
+    let ordered = chosen_ordered (end_of lo) (end_of hi) pass.0 low high in
+    subst (λ t. Meets t r) (sym pass.3) ((substitution_is_exact r f x (end_of lo) (end_of hi) s has ordered).0 m pass.0 low high)
 
 all_back_meet : (w : What) (s t : State) (rows : List Linear) → HasVariable w s → Pass w s t → MeetsAll s (map (back w) rows) → MeetsAll t rows
 all_back_meet w s t [] has pass m = tt
@@ -56,11 +58,11 @@ proved_meets w premises (r ∷ rows) (p ∷ proofs) s long each m =
     (shown_is_met premises (back w r) p s each.0.proves.shows m, proved_meets w premises rows proofs s (omega arith) each.1 m)
 
 -- an edge that is proved is paid by its premises
-edge_met : (a : Annotated) (e : Arc) (proofs : List Proof) (s : State) → EdgeProved a e proofs → MeetsAll s (premises a e) →
-    MeetsAll s (map (back e.what) (asked e.what (rows_at a e.to)))
+edge_met : (a : Annotated) (e : Arc) (proofs : List Proof) (s : State) → EdgeProved a e proofs → MeetsAll s (premises e.what (rows_at a.rows e.from)) →
+    MeetsAll s (map (back e.what) (asked e.what (rows_at a.rows e.to)))
 edge_met a e proofs s h m =
-    let long = ap (length {A = Linear}) (owed_is_asked e.what (rows_at a e.to)) ∙ length-map (asked e.what (rows_at a e.to)) (back e.what) in
-    proved_meets e.what (premises a e) (asked e.what (rows_at a e.to)) proofs s (h.count ∙ long) h.each m
+    let long = ap (length {A = Linear}) (owed_is_asked e.what (rows_at a.rows e.to)) ∙ length-map (asked e.what (rows_at a.rows e.to)) (back e.what) in
+    proved_meets e.what (premises e.what (rows_at a.rows e.from)) (asked e.what (rows_at a.rows e.to)) proofs s (h.count ∙ long) h.each m
 
 pays : (w : What) (s : State) (source rows : List Linear) → HasVariable w s → MeetsAll s source →
     (MeetsAll s (source ++ test_rows w) → MeetsAll s (map (back w) (asked w rows))) → Pays w s rows
@@ -111,13 +113,13 @@ first_rows (rows ∷ all) = refl
 module _ (g : Flow) (kept : IsGraph g) (s : State) (entry : IsEntry g s) where
   alternative_safe : (a : Annotated) → length a.proofs ≡ length g.edges → AlternativeProved g a → MeetsAll s (entry_rows a.rows) → GraphSafe g s
   alternative_safe a long proved m =
-      paid_is_safe g (rows_at a) s
+      paid_is_safe g (rows_at a.rows) s
       (λ e member u wide met.
       let edge = paired (λ x. EdgeProved a x.0 x.1) g.edges a.proofs e long proved.edges member in
-      pays e.what u (rows_at a e.from) (rows_at a e.to) (has_variable g.variables e.what u (each_at _ g.edges e kept.leads member).over wide) met
+      pays e.what u (rows_at a.rows e.from) (rows_at a.rows e.to) (has_variable g.variables e.what u (each_at _ g.edges e kept.leads member).over wide) met
       (edge_met a e edge.0 u edge.1))
       (entered_long g s kept entry)
-      (entered_meets (rows_at a 0) (g.variables - g.params) s (subst (MeetsAll s) (first_rows a.rows) m))
+      (entered_meets (rows_at a.rows 0) (g.variables - g.params) s (subst (MeetsAll s) (first_rows a.rows) m))
 
   some_safe : (points variables : ℕ) (as' : List Annotated) → AllByRecursion (IsShaped points (length g.edges) variables) as' → AllByRecursion (AlternativeProved g) as' →
       MeetsSome s (map (λ a. entry_rows a.rows) as') → GraphSafe g s

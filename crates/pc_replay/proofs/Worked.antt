@@ -6,7 +6,8 @@ use Rattle.pc_rows.specs.Linear.{Linear}
 use Rattle.pc_rows.specs.Evidence.{Proof}
 use Rattle.pc_flow.specs.declared.what.What.TheVariants.{Set, Check}
 use Rattle.pc_replay.specs.declared.flaw.Flaw.TheVariants.{Past, Negative, Index, Left, NotBelow}
-use Rattle.pc_replay.specs.Flaws.{flaw, asked, row_flaw}
+use Rattle.pc_flow.specs.Carry.{asked}
+use Rattle.pc_replay.specs.Flaws.{flaw, row_flaw}
 use Rattle.pc_replay.specs.Shape.{first_beyond}
 
 abbrev row : ℤ → ℤ → ℤ → Linear

@@ -10,8 +10,9 @@ use Rattle.pc_flow.specs.Carry.{BackFits, back, owes}
 use Rattle.pc_flow.specs.Flow.{Flow}
 use Rattle.pc_certificate.specs.declared.certificate.Annotated.{Annotated}
 use Rattle.pc_certificate.specs.Certificate.{Certificate}
-use Rattle.pc_replay.specs.Flaws.{asked}
-use Rattle.pc_replay.specs.Rule.{rows_at, premises}
+use Rattle.pc_flow.specs.Carry.{asked}
+use Rattle.pc_flow.specs.Annotation.{rows_at}
+use Rattle.pc_flow.specs.Carry.{premises}
 use Rattle.pc_replay.specs.Shape.{HasShape}
 
 -- a proof shows the goal from the premises, and all that is computed for its total is in range
@@ -26,12 +27,12 @@ pub record RowProved (w : What) (premises : List Linear) (r : Linear) (p : Proof
 
 -- an edge has a proof for each row that it owes, from the rows of its source and of its test
 pub record EdgeProved (a : Annotated) (e : Arc) (proofs : List Proof) : Type 0 where
-  pub count : length proofs ≡ length (owes e.what (rows_at a e.to))
-  pub each : AllByRecursion (λ x. RowProved e.what (premises a e) x.0 x.1) (zip (asked e.what (rows_at a e.to)) proofs)
+  pub count : length proofs ≡ length (owes e.what (rows_at a.rows e.to))
+  pub each : AllByRecursion (λ x. RowProved e.what (premises e.what (rows_at a.rows e.from)) x.0 x.1) (zip (asked e.what (rows_at a.rows e.to)) proofs)
 
 -- the rows of the entry are over the parameters, and each edge is proved
 pub record AlternativeProved (g : Flow) (a : Annotated) : Type 0 where
-  pub entry : AllByRecursion (IsOver g.params) (rows_at a 0)
+  pub entry : AllByRecursion (IsOver g.params) (rows_at a.rows 0)
   pub edges : AllByRecursion (λ x. EdgeProved a x.0 x.1) (zip g.edges a.proofs)
 
 -- a certificate is right for a graph

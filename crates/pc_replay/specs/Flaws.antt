@@ -1,12 +1,11 @@
 -- What is wrong with a proof of a row that an edge owes: the first of its flaws, in the order of the rule.
-use Rattle.std.specs.Prelude.{ℕ, ℤ, ◌+◌, nat_lt, ◌&&◌, Bool, pos, int_le, List, ◌++◌, length, Option, Some, None, if◌then◌else◌}
+use Rattle.std.specs.Prelude.{ℕ, ℤ, nat_lt, ◌&&◌, Bool, pos, int_le, List, length, Option, Some, None, if◌then◌else◌}
 use Rattle.std.specs.List.{list_all, position_from}
 use Rattle.std.specs.Prelude.{not}
 use Rattle.pc_rows.specs.Linear.{Linear, is_zero}
 use Rattle.pc_rows.specs.Evidence.{Proof}
 use Rattle.pc_rows.specs.Shows.{total}
 use Rattle.pc_flow.specs.declared.what.What.{What}
-use Rattle.pc_flow.specs.declared.what.What.TheVariants.{Enter, Test, Set, Check}
 use Rattle.pc_flow.specs.Carry.{back}
 use Rattle.pc_replay.specs.declared.flaw.Flaw.{Flaw}
 use Rattle.pc_replay.specs.declared.flaw.Flaw.TheVariants.{Past, Negative, Index, Left, NotBelow}
@@ -44,13 +43,6 @@ flaw premises goal p =
     needs (total_fits premises goal p) (Some Past) (
     flaw_of_total (total premises goal p))))
 
--- the rows that an edge has to show for the rows at its target, before they are carried back: an assertion its own first
-abbrev pub asked : What → List Linear → List Linear
-asked (Check own) rows = own ++ rows
-asked (Enter params) rows = rows
-asked (Test own) rows = rows
-asked (Set x form lo hi) rows = rows
-
--- what is wrong with a proof of such a row, which is carried back first
+-- what is wrong with a proof of a row that an edge has to show, which is carried back first
 abbrev pub row_flaw : What → List Linear → Linear → Proof → Option Flaw
 row_flaw w premises r p = needs (back_fits w r) (Some Past) (flaw premises (back w r) p)

@@ -1,32 +1,37 @@
 -- What has to be in range for a row to be carried back, and for the total of a proof, as tests. A total is made row by row, and
 -- the rule goes column by column: the products and the partial sums are the same, and so is whether one of them is not in range.
-use Rattle.std.specs.Prelude.{◌&&◌, ◌||◌, ℕ, ℤ, ◌+ℤ◌, ◌*ℤ◌, pos, Bool, true, List, [], ◌∷◌, slice_set}
+use Rattle.std.specs.Prelude.{◌&&◌, ◌||◌, ℕ, ℤ, ◌+ℤ◌, ◌*ℤ◌, pos, Bool, true, List, [], ◌∷◌, slice_set, Option, Some, None}
 use Rattle.std.specs.List.{list_all}
 use Rattle.pc_rows.specs.declared.proof.Part.{Part}
 use Rattle.pc_rows.specs.Linear.{Linear, coefficient, is_zero, in_range, is_in_range, add_lists, scale_list, sum_of, scaled_by, negation}
-use Rattle.pc_rows.specs.Substitution.{lesser}
+use Rattle.pc_rows.specs.Substitution.{least_product, needs_open_end}
 use Rattle.pc_rows.specs.Evidence.{Proof}
 use Rattle.pc_rows.specs.Shows.{times_premise}
 use Rattle.pc_language.specs.Ends.{end_of}
 use Rattle.pc_flow.specs.declared.what.What.{What}
 use Rattle.pc_flow.specs.declared.what.What.TheVariants.{Enter, Test, Set, Check}
 
+-- the product with an end that is closed
+abbrev pub product_fits : ℤ → Option ℤ → Bool
+product_fits c None = true
+product_fits c (Some end) = in_range (c *ℤ end)
+
 -- with c for the coefficient of the variable: what makes the constant of a row that is carried back over an assignment
-abbrev pub constant_fits : ℤ → ℤ → ℤ → ℤ → ℤ → Bool
+abbrev pub constant_fits : ℤ → ℤ → ℤ → Option ℤ → Option ℤ → Bool
 constant_fits c constant of_form lo hi =
-    in_range (c *ℤ of_form) && in_range (constant +ℤ c *ℤ of_form) && in_range (c *ℤ lo) && in_range (c *ℤ hi) &&
-    in_range (constant +ℤ c *ℤ of_form +ℤ lesser (c *ℤ lo) (c *ℤ hi))
+    in_range (c *ℤ of_form) && in_range (constant +ℤ c *ℤ of_form) && product_fits c lo && product_fits c hi &&
+    in_range (constant +ℤ c *ℤ of_form +ℤ least_product c lo hi)
 
 -- and what makes its coefficients
 abbrev pub coefficients_fit : ℤ → List ℤ → ℕ → List ℤ → Bool
 coefficients_fit c of_row x of_form =
     list_all in_range (scale_list c of_form) && list_all in_range (add_lists (scale_list c of_form) (slice_set of_row x (pos 0)))
 
--- a row without the variable stays as it is
-abbrev pub substitute_fits : Linear → ℕ → Linear → ℤ → ℤ → Bool
+-- a row without the variable stays as it is, and no product is formed where the needed end is open
+abbrev pub substitute_fits : Linear → ℕ → Linear → Option ℤ → Option ℤ → Bool
 substitute_fits r x form lo hi =
-    is_zero (coefficient r x) ||
-    (constant_fits (coefficient r x) r.constant form.constant lo hi && coefficients_fit (coefficient r x) r.coefficients x form.coefficients)
+    is_zero (coefficient r x) || (needs_open_end (coefficient r x) lo hi ||
+    (constant_fits (coefficient r x) r.constant form.constant lo hi && coefficients_fit (coefficient r x) r.coefficients x form.coefficients))
 
 -- a row can be carried back over the edge
 abbrev pub back_fits : What → Linear → Bool

@@ -1,10 +1,11 @@
 -- The rule of the replayer: the first refusal, in its order.
-use Rattle.std.specs.Prelude.{◌==◌, ℕ, ◌+◌, List, [], ◌∷◌, ◌++◌, length, slice_index_or, Option, Some, None}
+use Rattle.std.specs.Prelude.{◌==◌, ℕ, ◌+◌, List, [], ◌∷◌, length, Option, Some, None}
 use Rattle.std.specs.List.{zip}
 use Rattle.pc_rows.specs.Linear.{Linear}
 use Rattle.pc_rows.specs.Evidence.{Proof}
 use Rattle.pc_flow.specs.Arc.{Arc}
-use Rattle.pc_flow.specs.Carry.{owes, test_rows}
+use Rattle.pc_flow.specs.Annotation.{rows_at}
+use Rattle.pc_flow.specs.Carry.{asked, owes, premises}
 use Rattle.pc_flow.specs.Flow.{Flow}
 use Rattle.pc_certificate.specs.declared.certificate.Annotated.{Annotated}
 use Rattle.pc_certificate.specs.Certificate.{Certificate}
@@ -13,11 +14,7 @@ use Rattle.pc_replay.specs.declared.flaw.Flaw.TheVariants as flaw
 use Rattle.pc_replay.specs.declared.ruling.Ruling.{Ruling}
 use Rattle.pc_replay.specs.declared.ruling.Ruling.TheVariants as answer
 use Rattle.pc_replay.specs.Shape.{first_beyond, has_shape}
-use Rattle.pc_replay.specs.Flaws.{needs, asked, row_flaw}
-
--- the rows of a point
-abbrev pub rows_at : Annotated → ℕ → List Linear
-rows_at a p = slice_index_or a.rows p []
+use Rattle.pc_replay.specs.Flaws.{needs, row_flaw}
 
 -- how a flaw at row k of edge e of alternative a is told
 abbrev pub told : ℕ → ℕ → ℕ → Flaw → Ruling
@@ -49,24 +46,20 @@ abbrev pub refusal : {A : Type 0} → (A → Ruling) → Option A → Ruling
 refusal f None = answer.Accepted
 refusal f (Some x) = f x
 
--- the premises of an edge: the rows of its source, and then those of its test
-abbrev pub premises : Annotated → Arc → List Linear
-premises a e = rows_at a e.from ++ test_rows e.what
-
 -- on row k of those that edge i owes, with its proof
 abbrev pub row_ruling : ℕ → Annotated → ℕ → Arc → ℕ → Linear × Proof → Ruling
-row_ruling n a i e k x = refusal (told n i k) (row_flaw e.what (premises a e) x.0 x.1)
+row_ruling n a i e k x = refusal (told n i k) (row_flaw e.what (premises e.what (rows_at a.rows e.from)) x.0 x.1)
 
 -- on an edge with its proofs: as many proofs as it owes rows, and then each row in order
 abbrev pub edge_ruling : ℕ → Annotated → ℕ → Arc × List Proof → Ruling
 edge_ruling n a i x =
-    needs (length x.1 == length (owes x.0.what (rows_at a x.0.to))) (answer.Count n i) (
-    in_order (row_ruling n a i x.0) 0 (zip (asked x.0.what (rows_at a x.0.to)) x.1))
+    needs (length x.1 == length (owes x.0.what (rows_at a.rows x.0.to))) (answer.Count n i) (
+    in_order (row_ruling n a i x.0) 0 (zip (asked x.0.what (rows_at a.rows x.0.to)) x.1))
 
 -- on an alternative: the rows of the entry are over the parameters, and then each edge in order
 abbrev pub alternative_ruling : Flow → ℕ → Annotated → Ruling
 alternative_ruling g n a =
-    first_refusal (refusal (answer.Entry n) (first_beyond g.params (rows_at a 0))) (in_order (edge_ruling n a) 0 (zip g.edges a.proofs))
+    first_refusal (refusal (answer.Entry n) (first_beyond g.params (rows_at a.rows 0))) (in_order (edge_ruling n a) 0 (zip g.edges a.proofs))
 
 -- on a certificate: its shape, and then each alternative in order
 abbrev pub ruling : Flow → Certificate → Ruling

@@ -1,6 +1,7 @@
 //! What the rule of the replayer promises, as contracts of functions that do nothing.
 
-ghost use Rattle.pc_replay.specs.Laws.{RuleIsMeant, FlawsAreMeant, OwedIsAsked, AcceptedIsLean, AcceptedIsSafe};
+ghost use Rattle.pc_flow.specs.Carry.{OwedIsAsked};
+ghost use Rattle.pc_replay.specs.Laws.{RuleIsMeant, FlawsAreMeant, AcceptedIsLean, AcceptedIsSafe};
 
 /// The rule accepts exactly where nothing is wrong, and its tests say what is meant.
 pub fn rule_is_meant()

@@ -7,11 +7,11 @@ ghost use Rattle.pc_replay.specs.Accepts.{Accepts};
 ghost use Rattle.pc_replay.specs.Laws.{IsSafe};
 
 use crate::edge::edge;
-use crate::lists::{proofs_at, rows_at};
+use crate::lists::proofs_at;
 use crate::ruling::Ruling;
 use crate::shape::{first_beyond, has_shape};
 use pc_certificate::{Annotated, Certificate};
-use pc_flow::Graph;
+use pc_flow::{Graph, rows_at};
 
 /// The ruling on alternative `n`.
 fn alternative(g: &Graph, n: u32, a: &Annotated) -> Ruling
@@ -20,7 +20,7 @@ fn alternative(g: &Graph, n: u32, a: &Annotated) -> Ruling
     ensures { result ≡ alternative_ruling g.now n a.now }
 {
     let params = g.params();
-    if let Some(row) = first_beyond(params, rows_at(a, 0)) {
+    if let Some(row) = first_beyond(params, rows_at(&a.rows, 0)) {
         return Ruling::Entry {
             alternative: n,
             row,

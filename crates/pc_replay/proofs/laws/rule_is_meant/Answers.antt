@@ -1,4 +1,5 @@
 use Rattle.pc_replay.proofs.Flawless.{flaws_are_meant}
+use Rattle.pc_flow.proofs.Asked.{owed_is_asked}
 use Rattle.pc_replay.proofs.Ruled as ruled
 use Rattle.pc_replay.proofs.laws.rule_is_meant.Goals as goal
 
@@ -9,4 +10,4 @@ pub returns-clause-flaws : goal.returns-clause-flaws
 returns-clause-flaws c = flaws_are_meant
 
 pub returns-clause-owed : goal.returns-clause-owed
-returns-clause-owed c = ruled.owed_is_asked
+returns-clause-owed c = owed_is_asked
