@@ -13,13 +13,13 @@ use Rattle.pc_flow.specs.Arc.{What, Enter, Test, Set, Check, IsFit}
 use Rattle.pc_flow.specs.Carry.{back_all, HasVariable, CarryingIsExact, OwedIsEnough}
 use Rattle.pc_flow.specs.Walk.{Pass}
 
--- a state keeps its length over an edge
 -- where some integer is chosen the closed ends are in order
 pub chosen_ordered : (lo hi : Option ℤ) (c : ℤ) → IsNotBelow lo c → IsNotAbove hi c → AreOrdered lo hi
 chosen_ordered None hi c h k = tt
 chosen_ordered (Some lo) None c h k = tt
 chosen_ordered (Some lo) (Some hi) c h k = omega (arith, ints)
 
+-- a state keeps its length over an edge
 pub same_length : (w : What) (s t : State) → Pass w s t → length t ≡ length s
 same_length (Enter n) s t h = ap length h ∙ zero_from_long n s
 same_length (Test rows) s t h = ap length h.1
