@@ -1,5 +1,5 @@
 -- The definitions at worked texts.
-use Rattle.std.proofs.Common.{◌≡◌, ℕ, ℤ, refl, pos, negsuc, List, [], ◌∷◌, Option, Some, None, Ok, Err, codes}
+use Rattle.std.proofs.Common.{◌≡◌, ℕ, ℤ, refl, ap, get_or, pos, negsuc, List, [], ◌∷◌, Option, Some, None, Ok, Err, codes}
 use Rattle.pc_text.specs.declared.place.Place.{Place}
 use Rattle.pc_text.specs.Lexemes.{class}
 use Rattle.pc_language.specs.declared.operator.Op.TheVariants as op
@@ -8,9 +8,12 @@ use Rattle.pc_program.specs.declared.tree.Expr.{roll-Expr, fold-roll-Expr}
 use Rattle.pc_program.specs.declared.tree.Expr.TheOpen as e
 use Rattle.pc_program.specs.declared.tree.Stmt.{Stmt, roll-Stmt, out-roll-Stmt}
 use Rattle.pc_program.specs.declared.tree.Stmt.TheOpen as s
+use Rattle.pc_rows.specs.Linear.{State}
+use Rattle.pc_program.specs.Values.{value_step, value_of}
 use Rattle.pc_program.specs.Machine.{clamped}
 use Rattle.pc_runner.specs.declared.fault.ScriptFault.TheVariants as fault
 use Rattle.pc_runner.specs.declared.verdict.Verdict.TheVariants as verdict
+use Rattle.pc_runner.specs.Computed.{Computed, worked_step, in_expr}
 use Rattle.pc_runner.specs.Scripts.{script_of}
 use Rattle.pc_runner.specs.Verdicts.{verdict_from}
 
@@ -79,8 +82,21 @@ body =
     ∷ roll-Stmt (s.Assert (column 29) (record { op = op.AtMost; left = roll-Expr (e.Name 0); right = roll-Expr (e.Num (pos 5)); place = column 39 } ∷ []))
     ∷ []
 
+-- a name or a number alone computes nothing
+in_name : (s : State) (v : ℕ) → in_expr s (roll-Expr (e.Name v)) ≡ []
+in_name s v = ap (λ (z : ℤ × List Computed). z.1) (fold-roll-Expr (ℤ × List Computed) (worked_step s) (e.Name v))
+
+in_number : (s : State) (n : ℤ) → in_expr s (roll-Expr (e.Num n)) ≡ []
+in_number s n = ap (λ (z : ℤ × List Computed). z.1) (fold-roll-Expr (ℤ × List Computed) (worked_step s) (e.Num n))
+
+value_of_name : (s : State) (v : ℕ) → value_of s (roll-Expr (e.Name v)) ≡ get_or s v (pos 0)
+value_of_name s v = fold-roll-Expr ℤ (value_step s) (e.Name v)
+
+value_of_number : (s : State) (n : ℤ) → value_of s (roll-Expr (e.Num n)) ≡ n
+value_of_number s n = fold-roll-Expr ℤ (value_step s) (e.Num n)
+
 above_the_number : verdict_from body (pos 0 ∷ []) (pos 6 ∷ pos 6 ∷ []) ≡ verdict.Violated 2 (column 29)
-above_the_number = simp (out-roll-Stmt, fold-roll-Expr)
+above_the_number = simp (out-roll-Stmt, in_name, in_number, value_of_name, value_of_number)
 
 below_the_number : verdict_from body (pos 0 ∷ []) (negsuc 3 ∷ negsuc 3 ∷ []) ≡ verdict.Going (pos 0 ∷ [])
-below_the_number = simp (out-roll-Stmt, fold-roll-Expr)
+below_the_number = simp (out-roll-Stmt, in_name, in_number, value_of_name, value_of_number)

@@ -7,7 +7,7 @@ ghost use Rattle.pc_program.specs.Sane.{names_below};
 
 use crate::showing::exprs::push_expr;
 use crate::showing::level::Level;
-use pc_language::{Bound, Choice, end_of};
+use pc_language::{Bound, Choice};
 use pc_program::Right;
 use pc_text::{Names, NoMemory, Text};
 
