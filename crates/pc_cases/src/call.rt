@@ -79,14 +79,22 @@ impl Call {
 
     /// Makes the call.
     pub fn outcome(self, alloc: Global) -> Result<Outcome, Fault> {
-        let Some(words) = self.words else {
+        let Call {
+            words,
+            files,
+            failing_reads,
+            room,
+            most,
+            failing_writes,
+        } = self;
+        let Some(words) = words else {
             return Err(Fault::Words);
         };
-        if self.most == 0 {
+        if most == 0 {
             return Err(Fault::Number);
         }
-        let mut store = MemoryStore::new(self.files, self.failing_reads);
-        let mut sink = MemorySink::new(alloc, self.room, self.most, self.failing_writes)?;
+        let mut store = MemoryStore::new(files, failing_reads);
+        let mut sink = MemorySink::new(alloc, room, most, failing_writes)?;
         let status = serve(alloc, words.as_slice(), &mut store, &mut sink);
         let text = Vec::from_slice(alloc, sink.written())?;
         Ok(Outcome { status, text })

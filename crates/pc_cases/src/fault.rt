@@ -3,41 +3,48 @@
 use pc_ports::NoMemory;
 use std::alloc::{AllocError, AllocFailed};
 use std::num::ParseIntError;
-use thiserror::Error;
 
 /// Why a file of cases is not understood.
-#[derive(Clone, Copy, Debug, Error)]
+#[derive(Clone, Copy)]
 pub enum Fault {
     /// A file of data is not there, is too long, or is no text.
-    #[error("a file of data that cannot be read")]
     Unreadable,
     /// A line stands outside of blocks and is no title.
-    #[error("a line outside of blocks")]
     Outside,
     /// The last line has no line feed.
-    #[error("the last line has no line feed")]
     Unended,
     /// A block ends without a status and a text, or goes on after them.
-    #[error("a block ends with one text that is printed")]
     Unprinted,
     /// A block has no words, or has them twice.
-    #[error("a block has one line of words")]
     Words,
     /// A line or a change comes before any text.
-    #[error("no text was begun")]
     Textless,
     /// A directive is not known.
-    #[error("an unknown directive")]
     Directive,
     /// A number is none, or is out of range.
-    #[error("a number that is out of range")]
     Number,
     /// A text is not as the change needs it.
-    #[error("a change that does not fit the text")]
     Change,
     /// There was no memory.
-    #[error("no memory")]
     Memory,
+}
+
+impl Fault {
+    /// The reason in words.
+    pub fn told(self) -> &'static str {
+        match self {
+            Fault::Unreadable => "a file of data that cannot be read",
+            Fault::Outside => "a line outside of blocks",
+            Fault::Unended => "the last line has no line feed",
+            Fault::Unprinted => "a block has one `-- prints`, which comes last",
+            Fault::Words => "a block has one line `$`",
+            Fault::Textless => "no text was begun",
+            Fault::Directive => "an unknown directive",
+            Fault::Number => "a number that is out of range",
+            Fault::Change => "a change that does not fit the text",
+            Fault::Memory => "no memory",
+        }
+    }
 }
 
 impl From<AllocError> for Fault {

@@ -12,7 +12,7 @@ mod report;
 mod text;
 
 use crate::files::text_of;
-use crate::reader::cases_of;
+use crate::reader::{cases_of, is_aside};
 use crate::report::Report;
 use pc_ports::{HostStore, Store};
 use std::io;
@@ -42,7 +42,7 @@ fn run_index<S: Store>(
     let mut line: usize = 0;
     for name in index.as_str().split('\n') {
         line = line.saturating_add(1);
-        if name != "" && !name.starts_with("#") {
+        if !is_aside(name) {
             run_file(rt, store, report, line, name)?;
         }
     }

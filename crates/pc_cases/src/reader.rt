@@ -77,8 +77,13 @@ fn begun(alloc: Global, number: usize, line: &str) -> Result<Option<Block>, Faul
     if let Some(title) = line.strip_prefix("== ") {
         return Ok(Some(Block::new(alloc, number, title)?));
     }
-    if line == "" || line.starts_with("#") {
+    if is_aside(line) {
         return Ok(None);
     }
     Err(Fault::Outside)
+}
+
+/// Whether a line is empty or a comment.
+pub fn is_aside(line: &str) -> bool {
+    line == "" || line.strip_prefix("#").is_some()
 }

@@ -48,7 +48,7 @@ impl Report {
         fault: Fault,
     ) -> io::Result<()> {
         self.failed = self.failed.saturating_add(1);
-        println!(rt; "{file}:{line}: {fault}")
+        println!(rt; "{file}:{line}: {}", fault.told())
     }
 
     /// Prints the counts. The status is 1 where something failed.
@@ -60,7 +60,7 @@ impl Report {
 
 /// Whether two calls ended alike.
 fn is_same(one: &Outcome, other: &Outcome) -> bool {
-    one.status == other.status && one.text == other.text
+    one.status == other.status && one.text.as_slice() == other.text.as_slice()
 }
 
 /// Prints the status and the text, with an empty line behind it where it ends with a line feed.
