@@ -6,7 +6,8 @@ use Rattle.pc_rows.specs.declared.rows.NoMemory.{NoMemory}
 use Rattle.pc_rows.specs.Linear.{Linear, State, MeetsAll}
 use Rattle.pc_flow.specs.Flow.{Flow}
 use Rattle.pc_flow.specs.Shape.{IsGraph}
-use Rattle.pc_lower.specs.Annotation.{rows_at, no_rows, NoHeads}
+use Rattle.pc_flow.specs.Annotation.{rows_at}
+use Rattle.pc_lower.specs.Annotation.{no_rows, NoHeads}
 use Rattle.pc_lower.specs.Need.{need}
 use Rattle.pc_lower.specs.Laws.{IsComplete}
 use Rattle.pc_certificate.specs.declared.certificate.Annotated.{Annotated}

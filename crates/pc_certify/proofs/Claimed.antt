@@ -10,15 +10,17 @@ use Rattle.pc_rows.specs.Evidence.{Proof}
 use Rattle.pc_flow.specs.Arc.{Arc}
 use Rattle.pc_flow.specs.Carry.{back}
 use Rattle.pc_flow.specs.Flow.{Flow}
-use Rattle.pc_lower.specs.Annotation.{rows_at, AreOver}
+use Rattle.pc_flow.specs.Annotation.{rows_at}
+use Rattle.pc_lower.specs.Annotation.{AreOver}
 use Rattle.pc_lower.specs.Laws.{IsComplete}
 use Rattle.pc_certificate.specs.declared.certificate.Annotated.{Annotated}
 use Rattle.pc_flow.proofs.Lists.{each_more}
 use Rattle.pc_replay.specs.Accepts.{RowProved, EdgeProved, AlternativeProved, Accepts}
-use Rattle.pc_replay.specs.Flaws.{asked}
+use Rattle.pc_flow.specs.Carry.{asked}
 use Rattle.pc_replay.specs.Shape.{IsShaped}
-use Rattle.pc_replay.proofs.Ruled.{owed_is_asked}
-use Rattle.pc_certify.specs.Causes.{premises, Fails}
+use Rattle.pc_flow.proofs.Asked.{owed_is_asked}
+use Rattle.pc_flow.specs.Carry.{premises}
+use Rattle.pc_certify.specs.Causes.{Fails}
 use Rattle.pc_certify.specs.Claims.{claim, IsProved}
 use Rattle.pc_certify.specs.Lists.{Pairwise}
 use Rattle.pc_certify.specs.Proving.{EdgeDone, EdgesAre, AnnotatedIs}
@@ -26,7 +28,7 @@ use Rattle.pc_certify.proofs.Pairs.{pairs_long, pairs_zip, pairs_second, pairs_w
 
 edge_proved : (b : Annotated) (e : Arc) (proofs : List Proof) → EdgeDone b.rows e proofs → EdgeProved b e proofs
 edge_proved b e proofs h =
-    let R = RowProved e.what (premises b.rows e) in
+    let R = RowProved e.what (premises e.what (rows_at b.rows e.from)) in
     let owed = ap (length {A = Linear}) (owed_is_asked e.what (rows_at b.rows e.to)) ∙ length-map (asked e.what (rows_at b.rows e.to)) (back e.what) in
     record {
       count = pairs_long R (asked e.what (rows_at b.rows e.to)) proofs h.each ∙ sym owed;

@@ -4,7 +4,8 @@ use Rattle.std.specs.Prelude.{replicate}
 use Rattle.pc_rows.specs.Linear.{Linear, MeetsAll}
 use Rattle.pc_rows.specs.Linear.{State}
 use Rattle.pc_flow.proofs.Witness.{broken_has_walk}
-use Rattle.pc_lower.specs.Annotation.{rows_at, no_rows}
+use Rattle.pc_flow.specs.Annotation.{rows_at}
+use Rattle.pc_lower.specs.Annotation.{no_rows}
 use Rattle.pc_lower.proofs.Paying.{need_is_owed}
 use Rattle.pc_replay.proofs.Sound.{entered_value, entered_long}
 use Rattle.pc_certify.specs.Inferring.{graph_need}

@@ -18,15 +18,6 @@ in_got [] i x got = absurd (cc)
 in_got (y ∷ xs) zero x got = let same : x ≡ y = cc in inl same
 in_got (y ∷ xs) (suc i) x got = inr (in_got xs i x got)
 
-pub any_left : {A : Type 0} (P : A → Type 0) (xs ys : List A) → AnyOf P xs → AnyOf P (xs ++ ys)
-any_left P [] ys h = absurd h
-any_left P (x ∷ xs) ys (inl h) = inl h
-any_left P (x ∷ xs) ys (inr h) = inr (any_left P xs ys h)
-
-pub any_right : {A : Type 0} (P : A → Type 0) (xs ys : List A) → AnyOf P ys → AnyOf P (xs ++ ys)
-any_right P [] ys h = h
-any_right P (x ∷ xs) ys h = inr (any_right P xs ys h)
-
 -- pairs
 
 module _ {A B : Type 0} (R : A → B → Type 0) where

@@ -8,7 +8,7 @@ use Rattle.pc_rows.specs.Evidence.{Proof}
 use Rattle.pc_flow.specs.declared.what.What.TheVariants.{Enter}
 use Rattle.pc_flow.specs.Arc.{arc}
 use Rattle.pc_flow.specs.Flow.{Flow}
-use Rattle.pc_lower.specs.Annotation.{rows_at}
+use Rattle.pc_flow.specs.Annotation.{rows_at}
 use Rattle.pc_certificate.specs.declared.certificate.Annotated.{Annotated}
 use Rattle.pc_entail.specs.Reduction.{Thinned, IsSplit, RemovesShown}
 use Rattle.pc_entail.proofs.Removing.{stay_each}

@@ -14,25 +14,25 @@ use Rattle.pc_flow.specs.Carry.{test_rows}
 use Rattle.pc_flow.specs.Flow.{Flow}
 use Rattle.pc_flow.specs.Lists.{AnyOf}
 use Rattle.pc_flow.specs.Shape.{IsGraph, IsHead, LeadsUp}
-use Rattle.pc_lower.specs.Annotation.{rows_at, AreOver}
+use Rattle.pc_flow.specs.Annotation.{rows_at}
+use Rattle.pc_lower.specs.Annotation.{AreOver}
 use Rattle.pc_certificate.specs.declared.certificate.Annotated.{Annotated}
 use Rattle.pc_flow.proofs.Lists.{each_more}
 use Rattle.pc_lower.proofs.Variables.{each_set}
 use Rattle.pc_replay.specs.Accepts.{RowProved}
-use Rattle.pc_replay.specs.Flaws.{asked}
-use Rattle.pc_certify.specs.Causes.{premises, RowFails}
+use Rattle.pc_flow.specs.Carry.{asked}
+use Rattle.pc_flow.specs.Carry.{premises}
+use Rattle.pc_certify.specs.Causes.{RowFails}
 use Rattle.pc_certify.specs.Claims.{IsProved}
 use Rattle.pc_certify.specs.Lists.{Pairwise}
 use Rattle.pc_certify.specs.Proving.{EdgeDone, RowsAre, RenewedIs}
 use Rattle.pc_certify.proofs.Pairs.{pairs_long}
 
 -- the answer on the edge from the entry
-pub renewed_is : (params : ℕ) (rows none next : List Linear) (e : Arc) (found : Result (Option (List Proof)) NoMemory) → e ≡ arc 0 1 (Enter params) → none ≡ [] →
-    length (asked e.what next) ≤ PREMISES → RowsAre true e.what (rows ++ none) (asked e.what next) found → RenewedIs params rows next found
-renewed_is params rows none next e found is nothing few h =
-    by found
-    (subst (λ (z : List Linear). RowsAre true (Enter params) (rows ++ z) next found) nothing
-    (subst (λ (z : Arc). RowsAre true z.what (rows ++ none) (asked z.what next) found) is h))
+pub renewed_is : (params : ℕ) (rows next : List Linear) (e : Arc) (found : Result (Option (List Proof)) NoMemory) → e ≡ arc 0 1 (Enter params) →
+    length (asked e.what next) ≤ PREMISES → RowsAre true e.what (premises e.what rows) (asked e.what next) found → RenewedIs params rows next found
+renewed_is params rows next e found is few h =
+    by found (subst (λ (z : Arc). RowsAre true z.what (premises z.what rows) (asked z.what next) found) is h)
   where
     most : length next ≤ PREMISES
     most = subst (λ (z : Arc). length (asked z.what next) ≤ PREMISES) is few
@@ -71,7 +71,7 @@ module _ (g : Flow) (kept : IsGraph g) where
         let to = same_at e.to (not_to_entry e leads) in
         record {
           each = subst (λ (z : List Linear). Pairwise (RowProved e.what (z ++ test_rows e.what)) (asked e.what (rows_at new e.to)) proofs) from
-              (subst (λ (z : List Linear). Pairwise (RowProved e.what (premises a e)) (asked e.what z) proofs) to h.each);
+              (subst (λ (z : List Linear). Pairwise (RowProved e.what (premises e.what (rows_at a e.from))) (asked e.what z) proofs) to h.each);
           few = h.few;
         }
 

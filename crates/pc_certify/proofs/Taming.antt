@@ -19,12 +19,14 @@ use Rattle.pc_flow.specs.Arc.{Arc}
 use Rattle.pc_flow.specs.Carry.{BackFits, back, test_rows}
 use Rattle.pc_flow.specs.Flow.{Flow}
 use Rattle.pc_flow.specs.Lists.{AnyOf}
-use Rattle.pc_lower.specs.Annotation.{rows_at, no_rows, NoHeads}
+use Rattle.pc_flow.specs.Annotation.{rows_at}
+use Rattle.pc_lower.specs.Annotation.{no_rows, NoHeads}
 use Rattle.pc_lower.specs.Need.{need}
 use Rattle.pc_lower.specs.Tame.{tame_bound, HasTameNumbers, AreTame, IsTame}
 use Rattle.pc_lower.proofs.Paying.{no_head}
-use Rattle.pc_replay.specs.Flaws.{asked}
-use Rattle.pc_certify.specs.Causes.{premises, RowFails, EdgeFails, Fails}
+use Rattle.pc_flow.specs.Carry.{asked}
+use Rattle.pc_flow.specs.Carry.{premises}
+use Rattle.pc_certify.specs.Causes.{RowFails, EdgeFails, Fails}
 
 -- rows carried back
 
@@ -136,9 +138,9 @@ module _ (g : Flow) (none : NoHeads g.points) (tame : IsTame g) where
   edge_holds : (e : Arc) → HasTameNumbers e.what → EdgeFails g.points a e → ⊥
   edge_holds e numbers fails =
       let rows = each_join (Within tame_bound) (rows_at a e.from) (test_rows e.what) (tame_at a e.from tame.points) (test_within e.what numbers) in
-      none_of (RowFails false e.what (premises a e)) (Within tame_bound) (λ r h. row_holds e.what (premises a e) r numbers rows h) (asked e.what (rows_at a e.to))
+      none_of (RowFails false e.what (premises e.what (rows_at a e.from))) (Within tame_bound) (λ r h. row_holds e.what (premises e.what (rows_at a e.from)) r numbers rows h) (asked e.what (rows_at a e.to))
       (asked_within e.what (rows_at a e.to) numbers (tame_at a e.to tame.points))
-      (subst (λ (b : Bool). AnyOf (RowFails b e.what (premises a e)) (asked e.what (rows_at a e.to))) (no_head g.points e.from none) fails)
+      (subst (λ (b : Bool). AnyOf (RowFails b e.what (premises e.what (rows_at a e.from))) (asked e.what (rows_at a e.to))) (no_head g.points e.from none) fails)
 
   pub tame_is_proved : Fails g a → ⊥
   tame_is_proved fails = none_of (EdgeFails g.points a) (λ e. HasTameNumbers e.what) edge_holds g.edges tame.edges fails

@@ -1,5 +1,5 @@
 -- Why an annotation is not proved.
-use Rattle.std.specs.Prelude.{◌≡◌, ◌⊎◌, ◌++◌, Bool, true, false, ◌+ℤ◌, List, Option, Some}
+use Rattle.std.specs.Prelude.{◌≡◌, ◌⊎◌, Bool, true, false, ◌+ℤ◌, List, Option, Some}
 use Rattle.std.specs.List.{find}
 use Rattle.pc_rows.specs.Linear.{Linear, InRange, IsInRange, negation}
 use Rattle.pc_rows.specs.Joins.{is_at_most}
@@ -7,16 +7,13 @@ use Rattle.pc_rows.specs.Modest.{IsModest}
 use Rattle.pc_flow.specs.declared.point.PointInfo.{PointInfo}
 use Rattle.pc_flow.specs.declared.what.What.{What}
 use Rattle.pc_flow.specs.Arc.{Arc}
-use Rattle.pc_flow.specs.Carry.{BackFits, back, test_rows}
+use Rattle.pc_flow.specs.Carry.{BackFits, back, premises}
 use Rattle.pc_flow.specs.Flow.{Flow}
 use Rattle.pc_flow.specs.Lists.{AnyOf}
 use Rattle.pc_entail.specs.Showing.{question, IsShown}
-use Rattle.pc_lower.specs.Annotation.{rows_at, is_head}
-use Rattle.pc_replay.specs.Flaws.{asked}
-
--- the premises of an edge: the rows of the point that it leaves, and then those of its test
-abbrev pub premises : List (List Linear) → Arc → List Linear
-premises a e = rows_at a e.from ++ test_rows e.what
+use Rattle.pc_flow.specs.Annotation.{rows_at}
+use Rattle.pc_lower.specs.Annotation.{is_head}
+use Rattle.pc_flow.specs.Carry.{asked}
 
 -- a row cannot be carried back in range, or a number of the negation is not in range
 abbrev pub IsPast : What → Linear → Type 0
@@ -47,7 +44,7 @@ RowFails head w premises r = IsPast w r ⊎ GoalFails head premises (back w r)
 -- some row of those that the edge has to show for its target
 abbrev pub EdgeFails : List PointInfo → List (List Linear) → Arc → Type 0
 EdgeFails points a e =
-    AnyOf (RowFails (is_head points e.from) e.what (premises a e)) (asked e.what (rows_at a e.to))
+    AnyOf (RowFails (is_head points e.from) e.what (premises e.what (rows_at a e.from))) (asked e.what (rows_at a e.to))
 
 -- at some edge
 abbrev pub Fails : Flow → List (List Linear) → Type 0

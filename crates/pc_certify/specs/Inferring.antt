@@ -11,7 +11,8 @@ use Rattle.pc_flow.specs.Lists.{AnyOf}
 use Rattle.pc_entail.specs.Showing.{question, IsShown, AreMetSomewhere, minus_one}
 use Rattle.pc_entail.specs.Reduction.{Thinned}
 use Rattle.pc_lower.specs.declared.fault.CandidateFault.TheVariants.{Past, Full}
-use Rattle.pc_lower.specs.Annotation.{rows_at, no_rows}
+use Rattle.pc_flow.specs.Annotation.{rows_at}
+use Rattle.pc_lower.specs.Annotation.{no_rows}
 use Rattle.pc_lower.specs.Need.{need}
 use Rattle.pc_lower.specs.Operations.{operations, IsFirstFault}
 use Rattle.pc_lower.specs.Tame.{IsTame}

@@ -1,5 +1,5 @@
 -- The proofs of goals, of the rows that an edge owes, and of an annotation; else why there are none. Want of memory is free.
-use Rattle.std.specs.Prelude.{◌≡◌, ◌≤◌, ℕ, Bool, true, pos, ◌+ℤ◌, List, [], ◌∷◌, ◌++◌, length, Option, Some, None, Result, Ok, Err}
+use Rattle.std.specs.Prelude.{◌≡◌, ◌≤◌, ℕ, Bool, true, pos, ◌+ℤ◌, List, [], ◌∷◌, length, Option, Some, None, Result, Ok, Err}
 use Rattle.pc_rows.specs.declared.rows.NoMemory.{NoMemory}
 use Rattle.pc_rows.specs.declared.system.TheConstants.{PREMISES}
 use Rattle.pc_rows.specs.Linear.{Linear, InRange, IsRow}
@@ -10,11 +10,12 @@ use Rattle.pc_flow.specs.declared.what.What.TheVariants.{Enter}
 use Rattle.pc_flow.specs.Arc.{Arc}
 use Rattle.pc_flow.specs.Flow.{Flow}
 use Rattle.pc_flow.specs.Lists.{AnyOf}
-use Rattle.pc_lower.specs.Annotation.{rows_at}
+use Rattle.pc_flow.specs.Annotation.{rows_at}
 use Rattle.pc_certificate.specs.declared.certificate.Annotated.{Annotated}
 use Rattle.pc_replay.specs.Accepts.{Proves, RowProved}
-use Rattle.pc_replay.specs.Flaws.{asked}
-use Rattle.pc_certify.specs.Causes.{premises, SumIsPast, IsNotShown, RowFails, EdgeFails, Fails}
+use Rattle.pc_flow.specs.Carry.{asked}
+use Rattle.pc_flow.specs.Carry.{premises}
+use Rattle.pc_certify.specs.Causes.{SumIsPast, IsNotShown, RowFails, EdgeFails, Fails}
 use Rattle.pc_certify.specs.Lists.{Pairwise}
 
 -- the goal once
@@ -58,7 +59,7 @@ RowsAre head w premises rows (Err e) = Unit {0}
 
 -- the proofs of an edge
 pub record EdgeDone (a : List (List Linear)) (e : Arc) (proofs : List Proof) : Type 0 where
-  pub each : Pairwise (RowProved e.what (premises a e)) (asked e.what (rows_at a e.to)) proofs
+  pub each : Pairwise (RowProved e.what (premises e.what (rows_at a e.from))) (asked e.what (rows_at a e.to)) proofs
   pub few : length proofs ≤ PREMISES
 
 abbrev pub EdgeIs : List PointInfo → List (List Linear) → Arc → Result (Option (List Proof)) NoMemory → Type 0
@@ -80,6 +81,6 @@ AnnotatedIs g a (Err e) = Unit {0}
 
 -- the proofs of what is owed at the entry for the rows `next` at the start, found from the rows
 abbrev pub RenewedIs : ℕ → List Linear → List Linear → Result (Option (List Proof)) NoMemory → Type 0
-RenewedIs params rows next (Ok (Some proofs)) = Pairwise (RowProved (Enter params) (rows ++ [])) next proofs × (length proofs ≤ PREMISES)
+RenewedIs params rows next (Ok (Some proofs)) = Pairwise (RowProved (Enter params) (premises (Enter params) rows)) next proofs × (length proofs ≤ PREMISES)
 RenewedIs params rows next (Ok None) = AnyOf (RowFails true (Enter params) rows) next
 RenewedIs params rows next (Err e) = Unit {0}

@@ -12,9 +12,8 @@ ghost use Rattle.pc_certify.specs.Proving.{EdgesAre, AnnotatedIs};
 use crate::edge::edge_proofs;
 use crate::lists::push;
 use pc_certificate::Annotated;
-use pc_flow::Graph;
-use pc_lower::Annotation;
-use pc_rows::{NoMemory, Proof, Rows};
+use pc_flow::{Annotation, Graph};
+use pc_rows::{NoMemory, Proof};
 use sqlite_items::Items;
 use std::alloc::Global;
 
@@ -26,24 +25,32 @@ use std::alloc::Global;
 /// is not in range; or where at an edge from a point that is no head the constants of that negation
 /// and of the first row that covers the owed one have a sum that is not in range; or where at an
 /// edge from a head the question is not modest, or no multipliers show the row.
-pub fn prove(alloc: Global, g: &Graph, a: &Annotation) -> Result<Option<Annotated>, NoMemory>
-    requires { IsComplete g.now a.now }
-    ensures rows { IfOk result (λ o. IfSome o (λ b. b.rows ≡ a.now)) }
+pub fn prove(
+    alloc: Global,
+    g: &Graph,
+    annotation: &Annotation,
+) -> Result<Option<Annotated>, NoMemory>
+    requires { IsComplete g.now annotation.now }
+    ensures rows { IfOk result (λ o. IfSome o (λ b. b.rows ≡ annotation.now)) }
     ensures accepted { IfOk result (λ o. IfSome o (λ b. Accepts g.now (claim g.now (b ∷ [])))) }
     ensures few { IfOk result (λ o. IfSome o (λ b. AllByRecursion (λ proofs. length proofs ≤ PREMISES) b.proofs)) }
-    ensures cause { IfOk result (λ o. IfNone o (Fails g.now a.now)) }
+    ensures cause { IfOk result (λ o. IfNone o (Fails g.now annotation.now)) }
 {
-    annotated(alloc, g, a)
+    annotated(alloc, g, annotation)
 }
 
 /// The annotation with the proofs of each edge.
-pub fn annotated(alloc: Global, g: &Graph, a: &Annotation) -> Result<Option<Annotated>, NoMemory>
-    requires { IsComplete g.now a.now }
-    ensures { AnnotatedIs g.now a.now result }
+pub fn annotated(
+    alloc: Global,
+    g: &Graph,
+    annotation: &Annotation,
+) -> Result<Option<Annotated>, NoMemory>
+    requires { IsComplete g.now annotation.now }
+    ensures { AnnotatedIs g.now annotation.now result }
 {
-    match all_proofs(alloc, g, a)? {
+    match proofs_by_edge(alloc, g, annotation)? {
         Some(proofs) => Ok(Some(Annotated {
-            rows: copy(alloc, a)?,
+            rows: copy(alloc, annotation)?,
             proofs,
         })),
         None => Ok(None),
@@ -51,17 +58,17 @@ pub fn annotated(alloc: Global, g: &Graph, a: &Annotation) -> Result<Option<Anno
 }
 
 /// The proofs of each edge.
-fn all_proofs(
+fn proofs_by_edge(
     alloc: Global,
     g: &Graph,
-    a: &Annotation,
+    annotation: &Annotation,
 ) -> Result<Option<Items<Items<Proof>>>, NoMemory>
-    requires { IsComplete g.now a.now }
-    ensures { EdgesAre g.now a.now result }
+    requires { IsComplete g.now annotation.now }
+    ensures { EdgesAre g.now annotation.now result }
 {
     let mut proofs = Items::new(alloc);
     for i in 0..g.edges() {
-        match edge_proofs(alloc, g, a, g.edge(i))? {
+        match edge_proofs(alloc, g, annotation, g.edge(i))? {
             Some(found) => push(&mut proofs, found)?,
             None => return Ok(None),
         }
@@ -70,11 +77,11 @@ fn all_proofs(
 }
 
 /// The same rows.
-fn copy(alloc: Global, a: &Annotation) -> Result<Items<Rows>, NoMemory>
-    ensures { IfOk result (λ rows. rows ≡ a.now) }
+fn copy(alloc: Global, annotation: &Annotation) -> Result<Annotation, NoMemory>
+    ensures { IfOk result (λ rows. rows ≡ annotation.now) }
 {
     let mut all = Items::new(alloc);
-    for rows in a.as_slice() {
+    for rows in annotation.as_slice() {
         push(&mut all, rows.copy()?)?;
     }
     Ok(all)

@@ -6,16 +6,16 @@ ghost use Rattle.pc_rows.specs.Linear.{IsOver};
 ghost use Rattle.pc_flow.specs.declared.what.What.TheVariants.{Enter};
 ghost use Rattle.pc_flow.specs.Arc.{arc};
 ghost use Rattle.pc_flow.specs.Shape.{IsGraph};
-ghost use Rattle.pc_lower.specs.Annotation.{rows_at};
+ghost use Rattle.pc_flow.specs.Annotation.{rows_at};
 ghost use Rattle.pc_certify.specs.Claims.{IsProved};
 ghost use Rattle.pc_certify.specs.Proving.{EdgeDone, RenewedIs};
 ghost use Rattle.pc_certify.specs.Inferring.{ReducesTo};
 
 use crate::edge::asked_proofs;
+use crate::origin::Origin;
 use pc_certificate::Annotated;
 use pc_entail::reduce;
-use pc_flow::{Edge, Graph};
-use pc_lower::rows_at;
+use pc_flow::{Edge, Graph, rows_at};
 use pc_rows::{NoMemory, Proof, Rows};
 use sqlite_items::Items;
 use std::alloc::Global;
@@ -59,9 +59,12 @@ fn entry_proofs(
 ) -> Result<Option<Items<Proof>>, NoMemory>
     ensures { RenewedIs g.now.params rows.now next.now result }
 {
-    let none = Rows::new(alloc);
-    let _most = rows.len();
-    asked_proofs(alloc, true, entry_edge(g), rows, &none, next)
+    let origin = Origin {
+        head: true,
+        edge: entry_edge(g),
+        rows,
+    };
+    asked_proofs(alloc, &origin, next)
 }
 
 /// The alternative with other rows at the entry, and other proofs of the edge from it.

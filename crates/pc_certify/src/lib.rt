@@ -8,6 +8,7 @@ mod entry;
 mod inference;
 mod laws;
 mod lists;
+mod origin;
 mod row;
 
 pub use annotation::prove;

@@ -3,5 +3,5 @@ use Rattle.pc_certify.proofs.entry.entry_proofs.Goals as goal
 
 pub returns : goal.returns
 returns c =
-    renewed_is c.args.g.now.params c.args.rows.now c.new-none.result c.args.next.now c.entry_edge.result.now c.asked_proofs.result
-    c.entry_edge.ensures.edge c.new-none.ensures c.asked_proofs.ensures.few c.asked_proofs.ensures.proofs
+    renewed_is c.args.g.now.params c.args.rows.now c.args.next.now c.entry_edge.result.now c.asked_proofs.result
+    c.entry_edge.ensures.edge c.asked_proofs.ensures.few c.asked_proofs.ensures.proofs

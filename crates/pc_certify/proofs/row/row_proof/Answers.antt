@@ -1,7 +1,8 @@
-use Rattle.std.proofs.Common.{◌++◌}
+use Rattle.pc_flow.specs.Carry.{premises}
 use Rattle.pc_certify.proofs.Proofs.{row_by_search}
 use Rattle.pc_certify.proofs.row.row_proof.Goals as goal
 
-pub returns-then-head : goal.returns-then-head
-returns-then-head c =
-    row_by_search c.args.e.now.what (c.args.a.now ++ c.args.b.now) c.args.r.now c.in-Ok.goal c.in-Ok.ensures c.args.head c.searched.result c.if-head.true c.searched.ensures
+pub returns-then-origin : goal.returns-then-origin
+returns-then-origin c =
+    let origin = c.args.origin.now in
+    row_by_search origin.edge.now.what (premises origin.edge.now.what origin.rows.now) c.args.r.now c.in-Ok.goal c.in-Ok.ensures origin.head c.searched.result c.if-origin.true c.searched.ensures
