@@ -100,16 +100,24 @@ module _ (status : ℕ) (text : Bytes) where
     too_long_cause (Replay source certificate) told e a =
         elim (over_cause source_kind (OnReplay (held certificate)) (held source) status text told.0 (λ l. omega arith) e a) [
           | inl h ↦ inl h
-          | inr x ↦ inr (record { program = x.0; spelled = x.1; cause =
-              only_left (λ y. let s = replay_ends x.0 y.0 status text y.2 in omega arith)
-              (over_cause certificate_kind (ReplayAnswers x.0) (held certificate) status text told.1.0 (λ l. omega arith) e x.2) })
+          | inr x ↦ inr (record {
+            program = x.0;
+            spelled = x.1;
+            cause =
+                only_left (λ y. let s = replay_ends x.0 y.0 status text y.2 in omega arith)
+                (over_cause certificate_kind (ReplayAnswers x.0) (held certificate) status text told.1.0 (λ l. omega arith) e x.2);
+          })
         ]
     too_long_cause (Run source script) told e a =
         elim (over_cause source_kind (OnRun (held script)) (held source) status text told.0 (λ l. omega arith) e a) [
           | inl h ↦ inl h
-          | inr x ↦ inr (record { program = x.0; spelled = x.1; cause =
-              only_left (λ y. let s = run_ends x.0 y.0 status text y.2 in omega arith)
-              (over_cause (script_kind x.0.names.params) (RunAnswers x.0) (held script) status text told.1.0 (λ l. omega arith) e x.2) })
+          | inr x ↦ inr (record {
+            program = x.0;
+            spelled = x.1;
+            cause =
+                only_left (λ y. let s = run_ends x.0 y.0 status text y.2 in omega arith)
+                (over_cause (script_kind x.0.names.params) (RunAnswers x.0) (held script) status text told.1.0 (λ l. omega arith) e x.2);
+          })
         ]
     too_long_cause (Show source) told e a =
         only_left (λ x. let s = x.2.status_is in omega arith) (over_cause source_kind ShowAnswers (held source) status text told.0 (λ l. omega arith) e a)

@@ -14,8 +14,8 @@ use crate::status::{MALFORMED, REFUSED, TOO_LONG};
 use pc_cert::{CertFault, read_certificate};
 use pc_certificate::Certificate;
 use pc_ports::{FetchFault, Store};
-use pc_runner::{Script, ScriptFault, read_script};
 use pc_program::Program;
+use pc_runner::{Script, ScriptFault, read_script};
 use pc_syntax::{SourceFault, read};
 use std::alloc::Global;
 

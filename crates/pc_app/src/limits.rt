@@ -14,5 +14,8 @@ pub const CERTIFICATE_BYTES: usize = 2_147_483_648;
 /// The most alternatives of a condition.
 pub const ALTERNATIVES: usize = 9;
 
-const _: () = prove!(SOURCE_BYTES == 1_048_576 && SCRIPT_BYTES == 1_048_576 && CERTIFICATE_BYTES == 2_147_483_648);
+const _: () = prove!(
+    SOURCE_BYTES == 1_048_576 && SCRIPT_BYTES == 1_048_576 && CERTIFICATE_BYTES == 2_147_483_648
+);
+
 const _: () = prove!(ALTERNATIVES == 9 && ALTERNATIVES == CANDIDATES);

@@ -12,8 +12,8 @@ use crate::ruling::answer_of_ruling;
 use pc_certificate::Certificate;
 use pc_graph::{Graph, lower};
 use pc_ports::Store;
-use pc_replay::accept;
 use pc_program::Program;
+use pc_replay::accept;
 use pc_text::NoMemory;
 use std::alloc::Global;
 

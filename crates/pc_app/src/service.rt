@@ -8,7 +8,9 @@ ghost use Rattle.pc_app.specs.Causes.{IsRuling, IsVerdict, OrderIsTooLong, Order
 ghost use Rattle.pc_app.specs.Promises.{OfBytes, PrintedSuffices, PrintedIsExact, PrintedCertificate, PrintedRuling, PrintedAccepted, PrintedVerdict, PrintedProgram, AreTold, AreThere, IsOnlyStatus, IsWritten, IsAnswered, HasAnswered, IsCutOff, Ends};
 
 use crate::answer::{Answer, Stop, answer_to_words};
-use crate::status::{DONE, MALFORMED, NO_MEMORY, REFUSED, SINK_FAILED, STORE_FAILED, TOO_LONG, USAGE};
+use crate::status::{
+    DONE, MALFORMED, NO_MEMORY, REFUSED, SINK_FAILED, STORE_FAILED, TOO_LONG, USAGE,
+};
 use pc_ports::{Sink, Store, WriteFault, put_all};
 use std::alloc::Global;
 

@@ -27,6 +27,7 @@ pub const MODEST_VARIABLES: usize = 3;
 pub const MODEST_NUMBER: usize = 1023;
 
 const _: () = prove!(PREMISES == 48);
+
 const _: () = prove!(MODEST_ROWS == 12 && MODEST_VARIABLES == 3 && MODEST_NUMBER == 1023);
 
 /// At most `PREMISES` premises, in order, and a goal.

@@ -1,14 +1,12 @@
 //! Tables.
 
-ghost use Rattle.std.specs.Prelude.{◌≡◌, ◌≢◌, ◌<◌, ◌≤◌, ◌≤ℤ◌, pos, length, IfOk, ◌∷◌, [], ◌++◌, OnOk, Ok, Err, MatchResult};
+ghost use Rattle.std.specs.Prelude.{◌≡◌, ◌≢◌, ◌<◌, ◌≤ℤ◌, pos, length, IfOk, ◌∷◌, [], ◌++◌, OnOk};
 ghost use Rattle.pc_rows.specs.Linear.{InRange, negation};
-ghost use Rattle.pc_rows.specs.Evidence.{IsSystem};
 ghost use Rattle.pc_rows.specs.Modest.{refuting};
 ghost use Rattle.pc_simplex.specs.declared.label.Label.TheVariants.{Row as OfRow};
-ghost use Rattle.pc_simplex.specs.Choosing.{chosen, chosen_in, first_of, entering_each, IsChoice};
+ghost use Rattle.pc_simplex.specs.Choosing.{line_at, number_at, chosen, chosen_in, first_of, entering_each, IsChoice};
 ghost use Rattle.pc_simplex.specs.Pivoting.{lines_fit, lines_after, exchange_fits, exchanged, ChangeIs};
 ghost use Rattle.pc_simplex.specs.Turns.{first_table, variables_from, lines_of};
-ghost use Rattle.pc_simplex.specs.Choosing.{line_at, number_at};
 
 use crate::choice::{Choice, entering, leaving};
 use crate::label::Label;
@@ -148,12 +146,22 @@ fn lines(alloc: Global, s: &System, negated: &Row) -> Result<Vec<Line>, NoMemory
     ensures { IfOk result (λ lines. lines.items ≡ lines_of 0 (refuting s.now)) }
 {
     let premises = s.len();
-    let mut lines = Vec::new(alloc);
+    let mut lines = room(alloc, premises + 1)?;
     for i in 0..premises {
         add(&mut lines, Line::of_row(i as u32, s.premise(i)))?;
     }
     add(&mut lines, Line::of_row(premises as u32, negated))?;
     Ok(lines)
+}
+
+/// No lines yet, and room for so many: the one allocation of a search but for what it finds.
+fn room(alloc: Global, count: usize) -> Result<Vec<Line>, NoMemory>
+    ensures { IfOk result (λ lines. lines.items ≡ []) }
+{
+    match Vec::with_capacity(alloc, count) {
+        Ok(lines) => Ok(lines),
+        Err(_) => Err(NoMemory),
+    }
 }
 
 fn add(lines: &mut Vec<Line>, line: Line) -> Result<(), NoMemory>
