@@ -3,8 +3,12 @@ use Rattle.std.proofs.Common.{◌≡◌, ◌≢◌, ◌∙◌, ◌↔◌, sym, s
 use Rattle.pc_ports.specs.Outside.{Holding, Untold, Nothing, Held}
 use Rattle.pc_text.specs.Bytes.{Bytes}
 use Rattle.pc_program.specs.declared.program.Program.{Program}
+use Rattle.pc_certificate.specs.Certificate.{Certificate}
+use Rattle.pc_graph.specs.Lowering.{graph}
+use Rattle.pc_replay.specs.Rule.{ruling as ruling_on}
 use Rattle.pc_replay.specs.declared.ruling.Ruling.{Ruling}
 use Rattle.pc_replay.specs.declared.ruling.Ruling.TheVariants as ruling
+use Rattle.pc_runner.specs.Scripts.{Choosing}
 use Rattle.pc_runner.specs.declared.verdict.Verdict.{Verdict}
 use Rattle.pc_runner.specs.declared.verdict.Verdict.TheVariants as verdict
 use Rattle.pc_app.specs.declared.status.TheConstants.{DONE, USAGE, REFUSED, MALFORMED, TOO_LONG, FAILED, PAST}
@@ -14,7 +18,7 @@ use Rattle.pc_app.specs.Words.{Order, Infer, Certify, Replay, Run, Show, IsOrder
 use Rattle.pc_app.specs.Files.{Kind, MayHold, MayMean, OnFile}
 use Rattle.pc_app.specs.Files.OnFile.{IsRefused, IsRead}
 use Rattle.pc_app.specs.Kinds.{source_kind, script_kind, certificate_kind}
-use Rattle.pc_app.specs.Answers.{Answers, AnalysisAnswers, OrderAnswers}
+use Rattle.pc_app.specs.Answers.{Answers, AnalysisAnswers, ReplayAnswers, RunAnswers, OrderAnswers}
 use Rattle.pc_app.specs.Answers.Answers.{Unknown, Known}
 use Rattle.pc_app.specs.Answers.AnalysisAnswers.{IsNotBuilt, IsAnalysed as IsBuilt}
 use Rattle.pc_app.specs.Causes.{IsRuling, IsVerdict}
@@ -29,7 +33,7 @@ pub record Usual (status : ℕ) : Type 0 where
 usual : (status : ℕ) → (status ≡ DONE) ⊎ ((status ≡ FAILED) ⊎ ((status ≡ REFUSED) ⊎ ((status ≡ MALFORMED) ⊎ ((status ≡ TOO_LONG) ⊎ (status ≡ PAST))))) → Usual status
 usual status h = record { answered = (omega arith, omega arith, omega arith); known = λ u. omega arith }
 
-pub of_ruling : (status : ℕ) (r : Ruling) → status ≡ ruling_status r → IsRuling status
+of_ruling : (status : ℕ) (r : Ruling) → status ≡ ruling_status r → IsRuling status
 of_ruling status ruling.Accepted s = inl s
 of_ruling status ruling.Shape s = inr s
 of_ruling status (ruling.Entry a r) s = inr s
@@ -40,12 +44,19 @@ of_ruling status (ruling.Past a e r) s = inr s
 of_ruling status (ruling.NotBelow a e r) s = inr s
 of_ruling status (ruling.Left a e r v) s = inr s
 
-pub of_verdict : (status : ℕ) (v : Verdict) → status ≡ verdict_status v → IsVerdict status
+of_verdict : (status : ℕ) (v : Verdict) → status ≡ verdict_status v → IsVerdict status
 of_verdict status (verdict.Violated n p) s = inr (inl s)
 of_verdict status (verdict.Blocked n p) s = inl s
 of_verdict status (verdict.Ended n) s = inl s
 of_verdict status (verdict.Going state) s = inl s
 of_verdict status (verdict.Past n p) s = inr (inr s)
+
+-- a certificate that is read is answered by a ruling, and a script by a verdict
+pub replay_ends : (p : Program) (c : Certificate) (status : ℕ) (text : Bytes) → ReplayAnswers p c status text → IsRuling status
+replay_ends p c status text a = of_ruling status (ruling_on (graph p) c) a.status_is
+
+pub run_ends : (p : Program) (c : Choosing) (status : ℕ) (text : Bytes) → RunAnswers p c status text → IsVerdict status
+run_ends p c status text a = of_verdict status a.verdict a.status_is
 
 module _ (status : ℕ) (text : Bytes) where
   file_usual : (kind : Kind) (A : kind.Meaning → ℕ → Bytes → Type 0) (held : Holding) → (kind.status ≡ REFUSED) ⊎ (kind.status ≡ MALFORMED) → ((m : kind.Meaning) → A m status text → Usual status) →
@@ -75,9 +86,9 @@ module _ (status : ℕ) (text : Bytes) where
   order_usual held (Infer source) a = source_usual _ (held source) (analysis_usual _ (λ p b. usual status (inl b.status_is))) a
   order_usual held (Certify source) a = source_usual _ (held source) (analysis_usual _ (λ p b. usual status (inl b.status_is))) a
   order_usual held (Replay source certificate) a =
-      source_usual _ (held source) (λ p b. file_usual certificate_kind _ (held certificate) (inr refl) (λ c r. ruling_usual (of_ruling status _ r.status_is)) b) a
+      source_usual _ (held source) (λ p b. file_usual certificate_kind _ (held certificate) (inr refl) (λ c r. ruling_usual (replay_ends p c status text r)) b) a
   order_usual held (Run source script) a =
-      source_usual _ (held source) (λ p b. file_usual (script_kind p.names.params) _ (held script) (inr refl) (λ c r. verdict_usual (of_verdict status r.verdict r.status_is)) b) a
+      source_usual _ (held source) (λ p b. file_usual (script_kind p.names.params) _ (held script) (inr refl) (λ c r. verdict_usual (run_ends p c status text r)) b) a
   order_usual held (Show source) a = source_usual _ (held source) (λ p b. usual status (inl b.status_is)) a
 
 -- ---- what is answered of a file that holds these bytes

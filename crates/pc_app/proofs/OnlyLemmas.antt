@@ -86,19 +86,21 @@ module _ (s : ℕ) (t : Bytes) (s' : ℕ) (t' : Bytes) where
   same_graph p q same = ap graph_of same
 
   ruling_once : (p q : Program) → content_of p ≡ content_of q → (c d : Certificate) → c ≡ d → ReplayAnswers p c s t → ReplayAnswers q d s' t' → s ≡ s'
-  ruling_once p q same c d e x y = x.status_is ∙ rw (same_graph p q same, e) (sym y.status_is)
+  ruling_once p q same c d e x y =
+      x.status_is ∙ ap (λ (g : Flow). ruling_status (ruling g c)) (same_graph p q same) ∙ ap (λ (z : Certificate). ruling_status (ruling (graph q) z)) e ∙ sym y.status_is
 
   replay_once : (held : Holding) → held ≢ Untold → (p q : Program) → content_of p ≡ content_of q → OnReplay held p s t → OnReplay held q s' t' → s ≡ s'
   replay_once held told p q same x y = file_once certificate_kind _ certificate_decided (ReplayAnswers p) (ReplayAnswers q) held told (ruling_once p q same) x y
 
   verdict_once : (p q : Program) → content_of p ≡ content_of q → (c d : Choosing) → c ≡ d → RunAnswers p c s t → RunAnswers q d s' t' → s ≡ s'
   verdict_once p q same c d e x y =
+      let moved : RunAnswers q c s' t' = subst (λ (z : Choosing). RunAnswers q z s' t') (sym e) y in
       let a = says_only c.choices p.body (started p c.entry) x.verdict x.says in
-      let b = says_only d.choices q.body (started q d.entry) y.verdict y.says in
+      let b = says_only c.choices q.body (started q c.entry) moved.verdict moved.says in
       let body : p.body ≡ q.body = ap (λ (z : Content). z.body) same in
       let names : p.names ≡ q.names = ap (λ (z : Content). z.names) same in
-      let one : x.verdict ≡ y.verdict = sym a ∙ rw (body, names, e) b in
-      x.status_is ∙ ap verdict_status one ∙ sym y.status_is
+      let one : x.verdict ≡ moved.verdict = sym a ∙ rw (body, names) b in
+      x.status_is ∙ ap verdict_status one ∙ sym moved.status_is
 
   run_once : (held : Holding) → held ≢ Untold → (p q : Program) → content_of p ≡ content_of q → OnRun held p s t → OnRun held q s' t' → s ≡ s'
   run_once held told p q same x y =

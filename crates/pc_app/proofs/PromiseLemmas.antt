@@ -72,7 +72,7 @@ module _ (held : Holding) (bytes : Bytes) (status : ℕ) (text : Bytes) (old new
         status_is = c.2.status_is;
         printed = is_written _ c.2.text_is;
       })
-      (λ e'. of_nothing (script_kind r.0.names.params) _ script status text e' r.2)
+      (λ e'. of_nothing (script_kind r.0.names.params) (RunAnswers r.0) script status text e' r.2)
 
   pub replay_is_ruling : IsRuling status → (certificate : Holding) → OnFile source_kind (OnReplay certificate) held status text → OfBytes (λ of_certificate. PrintedRuling bytes of_certificate status old new) certificate
   replay_is_ruling told certificate file =
@@ -88,7 +88,7 @@ module _ (held : Holding) (bytes : Bytes) (status : ℕ) (text : Bytes) (old new
         status_is = c.2.status_is;
         printed = is_written _ c.2.text_is;
       })
-      (λ e'. of_nothing certificate_kind _ certificate status text e' r.2)
+      (λ e'. of_nothing certificate_kind (ReplayAnswers r.0) certificate status text e' r.2)
 
 done_is_accepted : (r : Ruling) → DONE ≡ ruling_status r → r ≡ answer.Accepted
 done_is_accepted answer.Accepted e = refl

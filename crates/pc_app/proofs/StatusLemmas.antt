@@ -12,7 +12,7 @@ use Rattle.pc_app.specs.Answers.{AnalysisAnswers, InferAnswers, CertifyAnswers, 
 use Rattle.pc_app.specs.Causes.{IsMeaningless, Behind, OrderIsTooLong, OrderIsRefused, OrderIsMalformed, OrderIsMeant, IsOutcome, IsRuling, IsVerdict}
 use Rattle.pc_app.specs.Promises.{AreTold, AreThere}
 use Rattle.pc_app.specs.Words.{Order, Infer, Certify, Replay, Run, Show, files_of}
-use Rattle.pc_app.proofs.AnswerLemmas.{of_ruling, of_verdict}
+use Rattle.pc_app.proofs.AnswerLemmas.{replay_ends, run_ends}
 use Rattle.pc_app.proofs.CauseLemmas.{may_be_there, is_there, over_answer, over_cause, file_cases, meaningless_answer, meaningless_cause, meant_read, may_mean, not_analysed_answer, not_analysed_cause, analysis_status, analysed_done}
 use Rattle.pc_app.proofs.KindLemmas.{AreAlike, source_decided, script_decided, certificate_decided}
 
@@ -59,8 +59,8 @@ module _ (held : Bytes → Holding) where
 -- ---- the answer tells what is held
 
 only_left : {P Q : Type 0} → (Q → ⊥) → P ⊎ Q → P
-only_left no (inl p) = p
-only_left no (inr q) = absurd (no q)
+only_left never (inl p) = p
+only_left never (inr q) = absurd (never q)
 
 module _ (status : ℕ) (text : Bytes) where
   -- a certificate or a script is answered by no status of a source
@@ -70,7 +70,7 @@ module _ (status : ℕ) (text : Bytes) where
       by : (status ≡ TOO_LONG) ⊎ ((status ≡ MALFORMED) ⊎ ((c : certificate_kind.Meaning) × MayMean certificate_kind held c × ReplayAnswers p c status text)) → ⊥
       by (inl s) = omega arith
       by (inr (inl s)) = omega arith
-      by (inr (inr x)) = let s = of_ruling status _ x.2.status_is in omega arith
+      by (inr (inr x)) = let s = replay_ends p x.0 status text x.2 in omega arith
 
   run_is_of_source : (p : Program) (held : Holding) → OnRun held p status text → status ≡ REFUSED → ⊥
   run_is_of_source p held a e = by (file_cases (script_kind p.names.params) (RunAnswers p) held status text a)
@@ -78,7 +78,7 @@ module _ (status : ℕ) (text : Bytes) where
       by : (status ≡ TOO_LONG) ⊎ ((status ≡ MALFORMED) ⊎ ((c : (script_kind p.names.params).Meaning) × MayMean (script_kind p.names.params) held c × RunAnswers p c status text)) → ⊥
       by (inl s) = omega arith
       by (inr (inl s)) = omega arith
-      by (inr (inr x)) = let s = of_verdict status x.2.verdict x.2.status_is in omega arith
+      by (inr (inr x)) = let s = run_ends p x.0 status text x.2 in omega arith
 
   -- what holds of the program that is read, where the status is not that of a source
   behind : (A : Program → ℕ → Bytes → Type 0) (held : Holding) (P : Program → Type 0) → status ≡ MALFORMED → ((p : Program) → A p status text → P p) → OnFile source_kind A held status text → Behind held P
@@ -104,7 +104,7 @@ module _ (status : ℕ) (text : Bytes) where
             program = x.0;
             spelled = x.1;
             cause =
-                only_left (λ y. let s = of_ruling status _ y.2.status_is in omega arith)
+                only_left (λ y. let s = replay_ends x.0 y.0 status text y.2 in omega arith)
                 (over_cause certificate_kind (ReplayAnswers x.0) (held certificate) status text told.1.0 (λ l. omega arith) e x.2);
           })
         ]
@@ -115,7 +115,7 @@ module _ (status : ℕ) (text : Bytes) where
             program = x.0;
             spelled = x.1;
             cause =
-                only_left (λ y. let s = of_verdict status y.2.verdict y.2.status_is in omega arith)
+                only_left (λ y. let s = run_ends x.0 y.0 status text y.2 in omega arith)
                 (over_cause (script_kind x.0.names.params) (RunAnswers x.0) (held script) status text told.1.0 (λ l. omega arith) e x.2);
           })
         ]
@@ -143,13 +143,13 @@ module _ (status : ℕ) (text : Bytes) where
     malformed_cause (Replay source certificate) told e a =
         behind (OnReplay (held certificate)) (held source) (λ p. IsMeaningless certificate_kind (held certificate)) e
         (λ p b.
-        only_left (λ x. let s = of_ruling status _ x.2.status_is in omega arith)
+        only_left (λ x. let s = replay_ends p x.0 status text x.2 in omega arith)
         (meaningless_cause certificate_kind (ReplayAnswers p) (held certificate) _ certificate_decided status text told.1.0 (λ l. omega arith) e b))
         a
     malformed_cause (Run source script) told e a =
         behind (OnRun (held script)) (held source) (λ p. IsMeaningless (script_kind p.names.params) (held script)) e
         (λ p b.
-        only_left (λ x. let s = of_verdict status x.2.verdict x.2.status_is in omega arith)
+        only_left (λ x. let s = run_ends p x.0 status text x.2 in omega arith)
         (meaningless_cause (script_kind p.names.params) (RunAnswers p) (held script) _ (script_decided p.names.params) status text told.1.0 (λ l. omega arith) e b))
         a
     malformed_cause (Show source) told e a =
@@ -163,14 +163,14 @@ module _ (status : ℕ) (text : Bytes) where
         let y = meant_read source_kind (OnReplay (held certificate)) (held source) AreAlike source_decided status text told.0 h.program h.spelled a in
         let x = may_mean certificate_kind (held certificate) h.cause in
         let z = meant_read certificate_kind (ReplayAnswers y.0) (held certificate) _ certificate_decided status text told.1.0 x.0 x.1 y.2 in
-        of_ruling status _ z.2.status_is
+        replay_ends y.0 z.0 status text z.2
     outcome (Run source script) told h a =
         let y = meant_read source_kind (OnRun (held script)) (held source) AreAlike source_decided status text told.0 h.program h.spelled a in
         let params : y.0.names.params ≡ h.program.names.params = ap (λ (c : Content). c.names.params) (sym y.1) in
         let moved = subst (λ (n : ℕ). OnFile (script_kind n) (RunAnswers y.0) (held script) status text) params y.2 in
         let x = may_mean (script_kind h.program.names.params) (held script) h.cause in
         let z = meant_read (script_kind h.program.names.params) (RunAnswers y.0) (held script) _ (script_decided h.program.names.params) status text told.1.0 x.0 x.1 moved in
-        of_verdict status z.2.verdict z.2.status_is
+        run_ends y.0 z.0 status text z.2
     outcome (Show source) told h a =
         let x = may_mean source_kind (held source) h in
         let y = meant_read source_kind ShowAnswers (held source) AreAlike source_decided status text told.0 x.0 x.1 a in
