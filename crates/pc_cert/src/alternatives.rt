@@ -3,7 +3,7 @@
 ghost use Rattle.std.specs.Prelude.{◌≡◌, ◌<◌, ◌++◌, length, All, IfOk, OnOk, OnErr};
 ghost use Rattle.std.specs.List.{flat_map, AllByRecursion};
 ghost use Rattle.pc_cert.specs.Conditions.{rows_text, line_text, condition_text};
-ghost use Rattle.pc_rows.specs.Linear.{InRange, IsOver};
+ghost use Rattle.pc_rows.specs.Linear.{IsOver};
 ghost use Rattle.pc_cert.specs.Certificate.{entry_rows, condition_of, SaysOf};
 ghost use Rattle.pc_cert.specs.Law.{TextDeterminesCondition};
 
@@ -108,95 +108,3 @@ pub fn show_condition(alloc: Global, c: &Certificate, names: &Names) -> Result<T
 pub fn text_determines_condition()
     ensures { TextDeterminesCondition }
 {}
-
-#[cfg(test)]
-mod tests {
-    use super::*;
-    use pc_rows::{Row, RowsFault};
-    use sqlite_items::Items;
-    use std::test::Fail;
-
-    fn names(alloc: Global) -> Result<Names, NoMemory>
-        ensures { IfOk result (λ names. length names.names ≡ 2) }
-    {
-        let mut names = Names::new(alloc);
-        names.push_param(b"x")?;
-        names.push_param(b"cap")?;
-        Ok(names)
-    }
-
-    fn row(alloc: Global, constant: i128, first: i128, second: i128) -> Row
-        requires constant { InRange constant }
-        requires first { InRange first }
-        requires second { InRange second }
-        ensures { IsOver 2 result }
-    {
-        Row::of_constant(alloc, constant)
-            .with(0, first)
-            .with(1, second)
-    }
-
-    fn rows(alloc: Global, first: Row, second: Row) -> Result<Rows, RowsFault>
-        requires first { IsOver 2 first }
-        requires second { IsOver 2 second }
-        ensures { IfOk result (λ rows. All (IsOver 2) rows) }
-    {
-        let mut rows = Rows::new(alloc);
-        rows.push(first)?;
-        rows.push(second)?;
-        Ok(rows)
-    }
-
-    #[test]
-    fn a_row_and_rows_go_behind_the_text(rt: HostRuntime) -> Result<(), Fail> {
-        let alloc = rt.alloc();
-        let names = names(alloc)?;
-        let pair = rows(alloc, row(alloc, -1, 3, 0), row(alloc, 0, 1, -2))?;
-        let mut text = Text::new(alloc);
-        push_row(alloc, &mut text, &row(alloc, 5, -1, 0), &names)?;
-        text.push(b'|')?;
-        push_rows(alloc, &mut text, &pair, &names)?;
-        assert_eq!(rt;
-            text.bytes(),
-            b"-x + 5 >= 0|3*x - 1 >= 0 && x - 2*cap >= 0".as_slice()
-        );
-        Ok(())
-    }
-
-    /// An alternative with these rows at point 0.
-    fn alternative(alloc: Global, rows: Rows) -> Result<Annotated, RowsFault>
-        ensures { IfOk result (λ a. (0 < length a.rows) × (entry_rows a.rows ≡ rows)) }
-    {
-        let mut points = Items::new(alloc);
-        if points.push(rows).is_err() {
-            return Err(RowsFault::NoMemory);
-        }
-        Ok(Annotated {
-            rows: points,
-            proofs: Items::new(alloc),
-        })
-    }
-
-    #[test]
-    fn a_condition_has_a_line_for_each_alternative(rt: HostRuntime) -> Result<(), Fail> {
-        let alloc = rt.alloc();
-        let names = names(alloc)?;
-        let first = rows(alloc, row(alloc, -2, 1, 0), row(alloc, 7, -1, 0))?;
-        let second = rows(alloc, row(alloc, 0, -1, 1), row(alloc, -1, 0, 0))?;
-        let mut both = Items::new(alloc);
-        both.push(alternative(alloc, first)?)?;
-        both.push(alternative(alloc, second)?)?;
-        let certificate = Certificate {
-            points: 1,
-            edges: 0,
-            variables: 2,
-            alternatives: both,
-        };
-        let text = show_condition(alloc, &certificate, &names)?;
-        assert_eq!(rt;
-            text.bytes(),
-            b"suffices: x - 2 >= 0 && -x + 7 >= 0\nsuffices: -x + cap >= 0 && -1 >= 0\n".as_slice()
-        );
-        Ok(())
-    }
-}

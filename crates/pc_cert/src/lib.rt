@@ -15,8 +15,6 @@ mod reading;
 mod row;
 mod row_lines;
 mod showing;
-#[cfg(test)]
-mod tests;
 mod words;
 
 pub use alternatives::{push_rows, show_condition, text_determines_condition};

@@ -13,6 +13,3 @@ mod row;
 pub use annotation::prove;
 pub use inference::{CANDIDATES, infer};
 pub use laws::{infer_is_exact, infer_is_exact_on_graphs, straight_is_loop_free};
-
-#[cfg(test)]
-mod tests;

@@ -21,6 +21,3 @@ mod small;
 
 pub use decision::{Answer, decide};
 pub use made::LIMIT;
-
-#[cfg(test)]
-mod tests;

@@ -12,6 +12,3 @@ pub use entailment::{contradictory, entails, shows_all};
 pub use laws::{reductions_are_equal, shown_rows_are_met, tests_are_kept};
 pub use pc_elim::Answer;
 pub use reduction::reduce;
-
-#[cfg(test)]
-mod tests;

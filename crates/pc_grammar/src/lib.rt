@@ -18,8 +18,6 @@ mod right;
 mod stmt;
 mod symbol;
 mod terminals;
-#[cfg(test)]
-mod tests;
 mod tree;
 
 pub use fault::ParseFault;

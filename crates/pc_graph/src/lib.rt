@@ -24,6 +24,3 @@ pub use laws::{
 pub use lowering::lower;
 pub use point::PointInfo;
 pub use what::{TEST_ROWS, What};
-
-#[cfg(test)]
-mod tests;

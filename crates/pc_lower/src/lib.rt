@@ -14,6 +14,3 @@ pub use fault::CandidateFault;
 pub use laws::{
     annotation_covers, need_is_free, need_is_meant, need_is_owed, need_is_paid, tame_need_fits,
 };
-
-#[cfg(test)]
-mod tests;

@@ -11,8 +11,6 @@ mod lists;
 mod memory_reads;
 mod memory_writes;
 mod reads;
-#[cfg(test)]
-mod tests;
 mod writes;
 
 pub use host_reads::HostStore;

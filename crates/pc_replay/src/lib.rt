@@ -17,6 +17,3 @@ mod totals;
 pub use laws::{accepted_is_safe, accepted_programs_are_safe, rule_is_meant};
 pub use replay::accept;
 pub use ruling::Ruling;
-
-#[cfg(test)]
-mod tests;

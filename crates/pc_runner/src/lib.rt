@@ -9,8 +9,6 @@ mod reading;
 mod runs;
 mod script;
 mod testing;
-#[cfg(test)]
-mod tests;
 mod verdict;
 mod words;
 

@@ -11,8 +11,6 @@ mod program;
 mod reading;
 mod rows;
 mod showing;
-#[cfg(test)]
-mod tests;
 mod tree;
 mod walk;
 

@@ -11,8 +11,6 @@ mod lines;
 mod names;
 mod rights;
 mod stmts;
-#[cfg(test)]
-mod tests;
 
 use crate::program::Program;
 use crate::showing::names::push_names;

@@ -6,10 +6,10 @@ ghost use Rattle.pc_syntax.specs.Spelling.{GivesProgram};
 ghost use Rattle.pc_syntax.specs.ShownTrees.{short_tree};
 ghost use Rattle.pc_syntax.specs.Trees.{fit_tree};
 
+mod conditions;
 mod exprs;
 mod names;
 mod stmts;
-mod tests;
 
 use crate::fault::SourceFault;
 use crate::program::Program;

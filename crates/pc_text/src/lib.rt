@@ -7,8 +7,6 @@ mod lines;
 mod names;
 mod number;
 mod place;
-#[cfg(test)]
-mod tests;
 mod text;
 mod token;
 

@@ -10,7 +10,7 @@ use crate::fault::SourceFault;
 use crate::limits::EDGES;
 use crate::tree::Stmt;
 use crate::walk::names::resolved;
-use crate::walk::tests::{conjunction, right, test, test_edges};
+use crate::walk::conditions::{conjunction, right, test, test_edges};
 use crate::walk::{Counted, CountedList};
 use pc_grammar::{CompareTree, StmtTree, TestTree};
 use pc_text::{Names, Place};

@@ -1,4 +1,6 @@
-use crate::{
+//! Stores and sinks.
+
+use pc_ports::{
     Calls, FetchFault, Files, HostSink, HostStore, MemorySink, MemoryStore, NoMemory, Sink, Store,
     WriteFault, put_all,
 };
@@ -41,6 +43,15 @@ fn a_listed_put_fails_after_what_was_written_before_it(rt: HostRuntime) -> Resul
     Ok(())
 }
 
+/// Names, numbers of bytes that are asked for, and what is fetched where call 4 fails.
+const FETCHES: [(&str, usize, Result<&[u8], FetchFault>); 5] = [
+    ("f", 9, Ok(b"first")),
+    ("g", 2, Ok(b"oth")),
+    ("h", 9, Err(FetchFault::Missing)),
+    ("f", 9, Err(FetchFault::Failed)),
+    ("f", 0, Ok(b"f")),
+];
+
 #[test]
 fn a_store_gives_the_front_of_the_first_file_of_a_name(rt: HostRuntime) -> Result<(), Fail> {
     let mut files = Files::new(rt.alloc());
@@ -51,26 +62,13 @@ fn a_store_gives_the_front_of_the_first_file_of_a_name(rt: HostRuntime) -> Resul
     assert_eq!(rt; files.len(), 3);
     assert_eq!(rt; files.at(1).0.as_str(), "g");
     let mut store = MemoryStore::new(files, calls(rt.alloc(), &[4])?);
-    assert_eq!(rt;
-        store.fetch(rt.alloc(), "f", 9)?.as_slice(),
-        b"first".as_slice()
-    );
-    assert_eq!(rt;
-        store.fetch(rt.alloc(), "g", 2)?.as_slice(),
-        b"oth".as_slice()
-    );
-    assert_eq!(rt;
-        store.fetch(rt.alloc(), "h", 9).err(),
-        Some(FetchFault::Missing)
-    );
-    assert_eq!(rt;
-        store.fetch(rt.alloc(), "f", 9).err(),
-        Some(FetchFault::Failed)
-    );
-    assert_eq!(rt;
-        store.fetch(rt.alloc(), "f", 0)?.as_slice(),
-        b"f".as_slice()
-    );
+    for (name, limit, wanted) in FETCHES {
+        assert!(rt; limit < 10);
+        match store.fetch(rt.alloc(), name, limit) {
+            Ok(bytes) => assert_eq!(rt; Ok(bytes.as_slice()), wanted),
+            Err(fault) => assert_eq!(rt; Err(fault), wanted),
+        }
+    }
     Ok(())
 }
 

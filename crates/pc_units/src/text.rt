@@ -1,10 +1,6 @@
-use crate::lex::tokens;
-use crate::lines::Lines;
-use crate::names::Names;
-use crate::number::read_number;
-use crate::place::Place;
-use crate::text::Text;
-use crate::token::{Kind, LexFault};
+//! Tokens, numerals, lines and names.
+
+use pc_text::{Kind, Lines, Names, Text, read_number, tokens};
 use std::test::Fail;
 
 #[test]
@@ -23,16 +19,6 @@ fn a_text_is_cut_into_tokens(rt: HostRuntime) -> Result<(), Fail> {
         assert_eq!(rt; token.kind, *kind);
     }
     Ok(())
-}
-
-#[test]
-fn the_first_fault_is_told_with_its_place(rt: HostRuntime) {
-    let place = Place { line: 2, column: 3 };
-    assert!(rt;
-        matches!(tokens(rt.alloc(), b"a\n =! $"), Err(LexFault::BadByte(p, b'!')) if p == place)
-    );
-    let big = b"\n  170141183460469231731687303715884105728";
-    assert!(rt; matches!(tokens(rt.alloc(), big), Err(LexFault::LiteralTooBig(p)) if p == place));
 }
 
 #[test]
