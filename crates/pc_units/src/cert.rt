@@ -58,7 +58,10 @@ fn a_certificate_that_is_cut_lacks_the_line_of_the_cut(rt: HostRuntime) -> Resul
     let mut line: u32 = 1;
     for n in 0..LOOP.len() {
         let fault = read_certificate(rt.alloc(), &LOOP[..n]).err();
-        assert!(rt; matches!(fault, Some(CertFault::Form(told)) if told == line), "cut at {n}");
+        assert!(rt;
+            matches!(fault, Some(CertFault::Form(told)) if told == line),
+            "cut at {n}"
+        );
         if LOOP[n] == b'\n' {
             line = line.saturating_add(1);
         }

@@ -6,8 +6,14 @@ use std::test::Fail;
 
 /// Sources, and whether the test that ends the loop shows the assertion behind it.
 const LOOPS: [(&[u8], bool); 2] = [
-    (b"entry (x) { while (x >= 1) { x = x - 1; } assert (x <= 3); }", true),
-    (b"entry (x) { while (x >= 1) { x = x - 1; } assert (x <= -1); }", false),
+    (
+        b"entry (x) { while (x >= 1) { x = x - 1; } assert (x <= 3); }",
+        true,
+    ),
+    (
+        b"entry (x) { while (x >= 1) { x = x - 1; } assert (x <= -1); }",
+        false,
+    ),
 ];
 
 #[test]

@@ -56,7 +56,10 @@ fn bounds_that_cross_contradict(rt: HostRuntime) -> Result<(), Fail> {
 
 /// Rows, and those that are left of them.
 const REDUCTIONS: [(&[[i32; 4]], &[Numbers]); 6] = [
-    (&[[0, 1, 0, 0], [-1, 1, 0, 0], [-2, 1, 0, 0]], &[[-2, 1, 0, 0]]),
+    (
+        &[[0, 1, 0, 0], [-1, 1, 0, 0], [-2, 1, 0, 0]],
+        &[[-2, 1, 0, 0]],
+    ),
     (&[[0, 1, 0, 0], [0, 1, 0, 0]], &[[0, 1, 0, 0]]),
     (&[], &[]),
     // at integers each row follows from the next; the first still follows from the last alone
@@ -70,7 +73,10 @@ const REDUCTIONS: [(&[[i32; 4]], &[Numbers]); 6] = [
         &[[-2, 3, 0, 0]],
     ),
     // 2x - 2 follows from x - 1, which follows from 2x - 1 at integers; at x = 1/2 2x - 2 does not
-    (&[[-2, 2, 0, 0], [-1, 1, 0, 0], [-1, 2, 0, 0]], &[[-1, 1, 0, 0]]),
+    (
+        &[[-2, 2, 0, 0], [-1, 1, 0, 0], [-1, 2, 0, 0]],
+        &[[-1, 1, 0, 0]],
+    ),
 ];
 
 #[test]

@@ -51,7 +51,11 @@ type Repeated = (&'static [(&'static [u8], u32)], ParseFault);
 /// Texts that go on far behind their fault.
 const LONG: [Repeated; 2] = [
     (
-        &[(b"entry () {", 1), (b" if (*) {", 100_000), (b" }", 100_001)],
+        &[
+            (b"entry () {", 1),
+            (b" if (*) {", 100_000),
+            (b" }", 100_001),
+        ],
         ParseFault::TooDeep(Place {
             line: 1,
             column: 586,

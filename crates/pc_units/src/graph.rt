@@ -108,7 +108,11 @@ fn a_head_has_what_its_loop_tries(rt: HostRuntime) -> Result<(), Fail> {
     let mut points = Vec::new(rt.alloc());
     for p in 0..graph.points() {
         let place = graph.place(p);
-        points.push((graph.is_head(p), graph.tried(p).len(), (place.line, place.column)))?;
+        points.push((
+            graph.is_head(p),
+            graph.tried(p).len(),
+            (place.line, place.column),
+        ))?;
     }
     assert_eq!(rt; points.as_slice(), POINTS.as_slice());
     Ok(())

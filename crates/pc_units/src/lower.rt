@@ -6,7 +6,7 @@ ghost use Rattle.pc_lower.specs.Annotation.{AreOver};
 use crate::shared::{COUNTING, Numbers, all_numbers, graph_of, need_of, row};
 use pc_graph::Graph;
 use pc_lower::{Annotation, CandidateFault, complete, no_rows, rows_at};
-use pc_rows::Rows;
+use pc_rows::{Rows, variables_are_kept};
 use pc_text::Text;
 use std::alloc::Global;
 use std::test::Fail;
@@ -39,7 +39,10 @@ fn the_entry_needs_what_each_way_asks(rt: HostRuntime) -> Result<(), Fail> {
         assert!(rt; source.len() < 1000);
         let need = need_of(rt.alloc(), &graph_of(rt.alloc(), source)?)?;
         assert!(rt; 0 < need.len());
-        assert_eq!(rt; all_numbers(rt.alloc(), rows_at(&need, 0))?.as_slice(), wanted);
+        assert_eq!(rt;
+            all_numbers(rt.alloc(), rows_at(&need, 0))?.as_slice(),
+            wanted
+        );
     }
     Ok(())
 }
@@ -88,6 +91,7 @@ fn head(alloc: Global, graph: &Graph) -> Result<Annotation, Fail>
     ensures long { IfOk result (λ heads. length heads ≡ length graph.now.points) }
     ensures over { IfOk result (AreOver graph.now.variables) }
 {
+    variables_are_kept();
     let mut rows = Rows::new(alloc);
     rows.push(row(alloc, [4, -1, 1, 0]).first(graph.variables()))?;
     let mut heads = no_rows(alloc, graph)?;

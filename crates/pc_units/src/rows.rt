@@ -5,8 +5,8 @@ ghost use Rattle.pc_rows.specs.declared.row.TheConstants.{VARIABLES};
 
 use crate::shared::{all_numbers, numbers, row, rows};
 use pc_rows::{
-    Number, Part, Parts, Past, Point, Proof, ROWS, Row, Rows, RowsFault, System, join, shows, sign_at,
-    substitute, total,
+    Number, Part, Parts, Past, Point, Proof, ROWS, Row, Rows, RowsFault, System, join, shows,
+    sign_at, substitute, total,
 };
 use std::test::Fail;
 
@@ -14,7 +14,10 @@ use std::test::Fail;
 fn a_join_leaves_out_what_is_covered(rt: HostRuntime) -> Result<(), Fail> {
     let alloc = rt.alloc();
     let first = rows(alloc, &[[0, 1, 0, 0]])?;
-    let second = rows(alloc, &[[3, 1, 0, 0], [5, 0, 0, 0], [-2, 0, 1, 0], [-1, 1, 0, 0]])?;
+    let second = rows(
+        alloc,
+        &[[3, 1, 0, 0], [5, 0, 0, 0], [-2, 0, 1, 0], [-1, 1, 0, 0]],
+    )?;
     let both = join(&first, &second)?;
     let wanted = [[0, 1, 0, 0], [-2, 0, 1, 0], [-1, 1, 0, 0]];
     assert_eq!(rt; all_numbers(alloc, &both)?.as_slice(), wanted.as_slice());
