@@ -5,7 +5,7 @@ use Rattle.pc_text.specs.Bytes.{Bytes}
 use Rattle.pc_app.specs.declared.status.TheConstants.{DONE, USAGE, REFUSED, STORE_FAILED, SINK_FAILED, NO_MEMORY, TOO_LONG}
 use Rattle.pc_app.specs.declared.limits.TheConstants.{SOURCE_BYTES}
 use Rattle.pc_app.specs.Words.{Order, Infer, Certify, Replay, Run, Show, IsOrder, IsInfer, IsCertify, IsReplay, IsRun, IsShow, IsPlain, files_of}
-use Rattle.pc_syntax.specs.declared.program.Program.{Program}
+use Rattle.pc_program.specs.declared.program.Program.{Program}
 use Rattle.pc_app.specs.Answers.{AnalysisAnswers, InferAnswers, OnSource, OrderAnswers}
 use Rattle.pc_app.specs.Silences.{LacksSome, OrderIsLost, LacksFile}
 use Rattle.pc_app.specs.Promises.{OfBytes, PrintedSuffices, PrintedIsExact, PrintedCertificate, PrintedRuling, PrintedAccepted, PrintedVerdict, PrintedProgram, IsVerdict, IsRuling, AreThere, IsAnswered, IsOnlyStatus, HasAnswered, IsCutOff, Ends}

@@ -9,33 +9,37 @@ use Rattle.pc_text.specs.declared.place.Place.{Place}
 use Rattle.pc_rows.specs.Linear.{Linear, State, value, Meets, MeetsAll, MeetsSome, IsOver}
 use Rattle.pc_rows.specs.declared.row.TheConstants.{VARIABLES}
 use Rattle.pc_rows.specs.declared.rows.TheConstants.{ROWS}
-use Rattle.pc_syntax.specs.declared.limits.TheConstants.{EDGES}
-use Rattle.pc_syntax.specs.declared.program.Program.{Program}
-use Rattle.pc_syntax.specs.Loops.{first, whiles_of}
-use Rattle.pc_syntax.specs.Sane.{is_sane, sane_stmts, edges_of}
-use Rattle.pc_syntax.proofs.Results.{and_is}
+use Rattle.pc_rows.specs.declared.system.TheConstants.{PREMISES}
+use Rattle.pc_language.specs.declared.limits.TheConstants.{EDGES}
+use Rattle.pc_program.specs.declared.program.Program.{Program}
+use Rattle.pc_program.specs.Loops.{first, whiles_of}
+use Rattle.pc_program.specs.Sane.{is_sane, sane_stmts, edges_of}
+use Rattle.pc_program.proofs.Results.{and_is}
 use Rattle.pc_graph.specs.Lowering.{graph}
 use Rattle.pc_graph.proofs.LoopFree.{loop_free_graphs}
 use Rattle.pc_lower.specs.Annotation.{NoHeads}
-use Rattle.pc_cert.specs.declared.certificate.Annotated.{Annotated}
-use Rattle.pc_cert.specs.Certificate.{Certificate, entry_rows, condition_of, SaysOf}
+use Rattle.pc_certificate.specs.declared.certificate.Annotated.{Annotated}
+use Rattle.pc_certificate.specs.declared.certificate.TheConstants.{POINTS}
+use Rattle.pc_certificate.specs.Certificate.{Certificate, entry_rows, condition_of, SaysOf}
 use Rattle.pc_text.specs.Bytes.{Bytes}
 use Rattle.pc_cert.specs.CertificateTexts.{IsTextOf}
+use Rattle.pc_cert.specs.Lengths.{text_bytes}
 use Rattle.pc_cert.proofs.ShortTexts.{texts_are_short}
 use Rattle.pc_cert.proofs.WholeReading.{each_of}
-use Rattle.pc_graph.proofs.Lists.{each_more}
+use Rattle.pc_flow.proofs.Lists.{each_more}
 use Rattle.pc_replay.specs.Accepts.{Accepts, AlternativeProved}
 use Rattle.pc_replay.specs.Rule.{rows_at}
 use Rattle.pc_replay.specs.Shape.{IsShaped}
-use Rattle.pc_replay.proofs.Sound.{accepted_programs_are_safe}
+use Rattle.pc_replay.proofs.Lean.{accepted_is_lean}
+use Rattle.pc_app.proofs.Programs.{accepted_programs_are_safe}
 use Rattle.pc_certify.specs.Inferring.{IsExact, AreEntryRows}
-use Rattle.pc_certify.proofs.Exactness.{infer_is_exact}
+use Rattle.pc_app.proofs.Programs.{infer_is_exact}
 use Rattle.pc_app.specs.declared.answer.Answer.{Answer}
 use Rattle.pc_app.specs.declared.status.TheConstants.{REFUSED}
 use Rattle.pc_app.specs.Answers.{AnalysisAnswers}
 use Rattle.pc_app.specs.Answers.AnalysisAnswers.{IsNotBuilt}
 use Rattle.pc_app.specs.Texts.{refused, not_built}
-use Rattle.pc_app.specs.declared.limits.TheConstants.{CERTIFICATE_BYTES}
+use Rattle.pc_app.specs.declared.limits.TheConstants.{ALTERNATIVES, CERTIFICATE_BYTES}
 use Rattle.pc_app.specs.Inferred.{IsCondition, HasViolation, IsNeeded, IsTameAndStraight, Inferred}
 
 -- ---- what a program keeps
@@ -142,8 +146,16 @@ no_heads p e = loop_free_graphs p (none_is (whiles_of p.body) e)
 
 -- ---- the length of the text
 
-pub short_text : (c : Certificate) (text : Bytes) → length c.alternatives ≤ 1 → IsTextOf text c → length text ≤ CERTIFICATE_BYTES
-short_text c text one is = let l = texts_are_short c is.showable is.kept in let e = ap (λ (z : Bytes). length z) is.text in omega arith
+-- as many alternatives as a condition may have are within the limit
+fits : (n : ℕ) → n ≤ ALTERNATIVES → text_bytes POINTS EDGES VARIABLES ROWS PREMISES n ≤ CERTIFICATE_BYTES
+fits n few = omega arith
+
+pub short_text : (p : Program) (c : Certificate) (text : Bytes) → length c.alternatives ≤ ALTERNATIVES → Accepts (graph p) c → IsTextOf text c → length text ≤ CERTIFICATE_BYTES
+short_text p c text few accepts is =
+    let short = texts_are_short c is.showable is.kept (accepted_is_lean (graph p) c is.kept accepts) in
+    let e = ap (λ (z : Bytes). length z) is.text in
+    let most = fits (length c.alternatives) few in
+    omega arith
 
 -- ---- programs that are not analysed
 

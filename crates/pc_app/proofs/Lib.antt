@@ -9,3 +9,4 @@ pub mod OnlyLemmas
 pub mod PromiseLemmas
 pub mod EndLemmas
 pub mod InferLemmas
+pub mod Programs

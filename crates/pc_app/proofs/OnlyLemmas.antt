@@ -2,20 +2,20 @@
 use Rattle.std.proofs.Common.{◌≡◌, ◌≢◌, ◌∙◌, ap, sym, Ok, Err, Some, None, subst, ℕ, ◌<◌, List, ◌∷◌, length, arith, false, refl, ◌⊎◌, inl, inr}
 use Rattle.pc_ports.specs.Outside.{Holding, Untold, Nothing, Held}
 use Rattle.pc_text.specs.Bytes.{Bytes}
-use Rattle.pc_syntax.specs.declared.program.Program.{Program}
+use Rattle.pc_program.specs.declared.program.Program.{Program}
 use Rattle.pc_syntax.specs.Context.{Content, content_of}
-use Rattle.pc_syntax.specs.Machine.{started}
+use Rattle.pc_program.specs.Machine.{started}
 use Rattle.pc_syntax.proofs.Readings.{each_text_has_no_more}
-use Rattle.pc_syntax.specs.Loops.{first, whiles_of}
-use Rattle.pc_cert.specs.Certificate.{Certificate}
+use Rattle.pc_program.specs.Loops.{first, whiles_of}
+use Rattle.pc_certificate.specs.Certificate.{Certificate}
 use Rattle.pc_cert.specs.CertificateTexts.{IsTextOf}
 use Rattle.pc_cert.specs.Faults.{fault_of}
 use Rattle.pc_cert.specs.declared.fault.CertFault.{CertFault}
 use Rattle.pc_cert.proofs.Meaning.{each_text_has_one_answer, text_determines_certificate}
-use Rattle.pc_graph.specs.Arc.{arc}
-use Rattle.pc_graph.specs.declared.what.What.TheVariants.{Enter}
+use Rattle.pc_flow.specs.Arc.{arc}
+use Rattle.pc_flow.specs.declared.what.What.TheVariants.{Enter}
 use Rattle.pc_graph.specs.Lowering.{graph, rules, points_from}
-use Rattle.pc_graph.specs.Flow.{Flow}
+use Rattle.pc_flow.specs.Flow.{Flow}
 use Rattle.pc_replay.specs.Rule.{ruling}
 use Rattle.pc_runner.specs.Scripts.{Choosing}
 use Rattle.pc_runner.proofs.Sayings.{says_only}

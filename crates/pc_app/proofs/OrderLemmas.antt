@@ -3,8 +3,8 @@ use Rattle.std.proofs.Common.{ℕ, ◌≤◌, inl, inr, List, [], ◌∷◌, Res
 use Rattle.pc_ports.specs.Outside.{Holding, Rose}
 use Rattle.pc_ports.proofs.Appending.{rose_from}
 use Rattle.pc_text.specs.Bytes.{Bytes}
-use Rattle.pc_syntax.specs.declared.program.Program.{Program}
-use Rattle.pc_cert.specs.Certificate.{Certificate}
+use Rattle.pc_program.specs.declared.program.Program.{Program}
+use Rattle.pc_certificate.specs.Certificate.{Certificate}
 use Rattle.pc_runner.specs.Scripts.{Choosing}
 use Rattle.pc_runner.specs.declared.script.Script.{Script}
 use Rattle.pc_app.specs.declared.answer.Answer.{Answer}

@@ -3,13 +3,13 @@ use Rattle.std.proofs.Common.{◌≡◌, ◌∙◌, sym, subst, ℕ, Option, ari
 use Rattle.pc_ports.specs.Outside.{Holding, Untold, Nothing, Held, Appended}
 use Rattle.pc_text.specs.Bytes.{Bytes}
 use Rattle.pc_graph.specs.Lowering.{graph}
-use Rattle.pc_cert.specs.Certificate.{condition_of}
+use Rattle.pc_certificate.specs.Certificate.{condition_of}
 use Rattle.pc_replay.specs.Accepts.{Accepts}
 use Rattle.pc_replay.specs.Rule.{ruling}
 use Rattle.pc_replay.specs.declared.ruling.Ruling.{Ruling}
 use Rattle.pc_replay.specs.declared.ruling.Ruling.TheVariants as answer
 use Rattle.pc_replay.proofs.Ruled.{rule_is_meant}
-use Rattle.pc_replay.proofs.Sound.{accepted_programs_are_safe}
+use Rattle.pc_app.proofs.Programs.{accepted_programs_are_safe}
 use Rattle.pc_app.specs.declared.status.TheConstants.{DONE}
 use Rattle.pc_app.specs.Rulings.{ruling_status, ruling_text}
 use Rattle.pc_app.specs.Answers.{AnalysisAnswers, InferAnswers, CertifyAnswers, ReplayAnswers, RunAnswers, ShowAnswers, OnSource, OnReplay, OnRun}

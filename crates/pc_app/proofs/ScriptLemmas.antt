@@ -1,15 +1,16 @@
 -- What the reading of a script, or of a certificate, tells.
-use Rattle.std.proofs.Common.{◌≡◌, ◌≢◌, ◌∙◌, ap, sym, ℕ, ℤ, List, [], ◌∷◌, length, Bool, true, false, cond, Result, Ok, Err, Some, refl, arith}
+use Rattle.std.proofs.Common.{◌≡◌, ◌≢◌, ◌∙◌, ap, sym, ℕ, ℤ, List, [], ◌∷◌, length, Bool, true, false, cond, codes, Result, Ok, Err, Option, None, Some, refl, arith}
 use Rattle.std.specs.Prelude.{◌==◌}
 use Rattle.std.proofs.lemmas.Bool.Decides.{nat_tests}
 use Rattle.pc_text.specs.Bytes.{Bytes}
+use Rattle.pc_text.specs.Lines.{lines}
+use Rattle.pc_text.specs.Words.{Words, words, behind}
 use Rattle.pc_cert.specs.Answers.{Means}
 use Rattle.pc_cert.specs.Faults.{fault_of}
 use Rattle.pc_cert.specs.declared.fault.CertFault.{CertFault}
 use Rattle.pc_cert.specs.declared.fault.CertFault.TheVariants as certificate
 use Rattle.pc_runner.specs.Answers.{Reads}
-use Rattle.pc_runner.specs.Scripts.{Choosing, script_of, script_by, entry_of, entry_by, as_many, values_in, choices_of, on_ok, lines}
-use Rattle.pc_runner.specs.Words.{words}
+use Rattle.pc_runner.specs.Scripts.{Choosing, script_of, script_by, entry_of, entry_by, as_many, values_in, choices_of, on_ok}
 use Rattle.pc_runner.specs.declared.fault.ScriptFault.{ScriptFault}
 use Rattle.pc_runner.specs.declared.fault.ScriptFault.TheVariants as fault
 
@@ -35,15 +36,15 @@ entry_where : (params : ℕ) (entry : List ℤ) (r : Result (List ℤ) ScriptFau
 entry_where params entry r true e = entry_after params entry r e
 entry_where params entry r false e = cc
 
-entry_is : (params : ℕ) (entry : List ℤ) (ws : List Bytes) → entry_by params ws ≡ Ok entry → length entry ≡ params
-entry_is params entry [] e = cc
-entry_is params entry (w ∷ ws) e = entry_where params entry (values_in 1 ws) _ e
+entry_is : (params : ℕ) (entry : List ℤ) (ws : Option Words) → entry_by params ws ≡ Ok entry → length entry ≡ params
+entry_is params entry None e = cc
+entry_is params entry (Some ws) e = entry_where params entry (values_in 1 ws) _ e
 
 same_entry : (entry : List ℤ) (c : Choosing) (r : Result (List ℤ) ScriptFault) → on_ok r (λ choices. Ok (record { entry = entry; choices = choices })) ≡ Ok c → entry ≡ c.entry
 same_entry entry c (Ok choices) e = cc
 same_entry entry c (Err f) e = cc
 
-by_entry : (params : ℕ) (c : Choosing) (ws : List Bytes) (choices : Result (List ℤ) ScriptFault) (r : Result (List ℤ) ScriptFault) → entry_by params ws ≡ r →
+by_entry : (params : ℕ) (c : Choosing) (ws : Option Words) (choices : Result (List ℤ) ScriptFault) (r : Result (List ℤ) ScriptFault) → entry_by params ws ≡ r →
     on_ok r (λ entry. on_ok choices (λ choices. Ok (record { entry = entry; choices = choices }))) ≡ Ok c → length c.entry ≡ params
 by_entry params c ws choices (Ok entry) h e = ap length (sym (same_entry entry c choices e)) ∙ entry_is params entry ws h
 by_entry params c ws choices (Err f) h e = cc
@@ -51,7 +52,7 @@ by_entry params c ws choices (Err f) h e = cc
 by_lines : (params : ℕ) (c : Choosing) (ls : List Bytes) → script_by params ls ≡ Ok c → length c.entry ≡ params
 by_lines params c [] e = cc
 by_lines params c (first ∷ []) e = cc
-by_lines params c (first ∷ next ∷ more) e = by_entry params c (words first) (choices_of 2 [] (next ∷ more)) (entry_of params first) refl e
+by_lines params c (first ∷ next ∷ more) e = by_entry params c (behind (codes "entry") (words first)) (choices_of 2 [] (next ∷ more)) (entry_of params first) refl e
 
 -- a script has a value for each parameter
 pub as_many_values : (params : ℕ) (bytes : Bytes) (c : Choosing) → script_of params bytes ≡ Ok c → length c.entry ≡ params

@@ -4,12 +4,12 @@ use Rattle.pc_ports.specs.Outside.{Holding, Untold, Nothing, Held}
 use Rattle.pc_rows.specs.Linear.{Linear}
 use Rattle.pc_text.specs.Bytes.{Bytes}
 use Rattle.pc_text.specs.declared.place.Place.{Place}
-use Rattle.pc_syntax.specs.declared.program.Program.{Program}
+use Rattle.pc_program.specs.declared.program.Program.{Program}
 use Rattle.pc_syntax.specs.declared.fault.SourceFault.{SourceFault}
-use Rattle.pc_syntax.specs.Canonical.{program_text}
-use Rattle.pc_syntax.specs.Loops.{first, whiles_of}
+use Rattle.pc_show.specs.Canonical.{program_text}
+use Rattle.pc_program.specs.Loops.{first, whiles_of}
 use Rattle.pc_syntax.specs.Spelling.{Spells, Faulty}
-use Rattle.pc_cert.specs.Certificate.{Certificate, condition_of}
+use Rattle.pc_certificate.specs.Certificate.{Certificate, condition_of}
 use Rattle.pc_cert.specs.CertificateTexts.{IsTextOf}
 use Rattle.pc_cert.specs.Conditions.{condition_text}
 use Rattle.pc_cert.specs.Faults.{fault_of}

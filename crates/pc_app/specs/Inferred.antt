@@ -3,9 +3,9 @@ use Rattle.std.specs.Prelude.{◌≡◌, ◌≤◌, ◌⊎◌, true, ℤ, List, 
 use Rattle.pc_rows.specs.Linear.{IsOver, Linear, MeetsSome}
 use Rattle.pc_rows.specs.declared.rows.TheConstants.{ROWS}
 use Rattle.pc_text.specs.declared.place.Place.{Place}
-use Rattle.pc_syntax.specs.declared.program.Program.{Program}
-use Rattle.pc_syntax.specs.Values.{State}
-use Rattle.pc_syntax.specs.Machine.{Violated, run_of, Safe}
+use Rattle.pc_program.specs.declared.program.Program.{Program}
+use Rattle.pc_rows.specs.Linear.{State}
+use Rattle.pc_program.specs.Machine.{Violated, run_of, Safe}
 use Rattle.pc_graph.specs.Lowering.{graph}
 use Rattle.pc_graph.specs.Straight.{are_straight}
 use Rattle.pc_lower.specs.Tame.{IsTame}

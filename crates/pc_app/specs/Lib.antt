@@ -8,3 +8,4 @@ pub mod Answers
 pub mod Silences
 pub mod Reading
 pub mod Promises
+pub mod Programs

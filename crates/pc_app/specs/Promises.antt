@@ -3,10 +3,10 @@ use Rattle.std.specs.Prelude.{◌≡◌, ◌≢◌, ◌⊎◌, ◌≤◌, ℕ, O
 use Rattle.pc_ports.specs.Outside.{Holding, Untold, Nothing, Held, Rose, Appended, FrontAppended}
 use Rattle.pc_rows.specs.Linear.{Linear}
 use Rattle.pc_text.specs.Bytes.{Bytes}
-use Rattle.pc_syntax.specs.declared.program.Program.{Program}
+use Rattle.pc_program.specs.declared.program.Program.{Program}
 use Rattle.pc_syntax.specs.Spelling.{Spells}
-use Rattle.pc_syntax.specs.Canonical.{program_text}
-use Rattle.pc_cert.specs.Certificate.{Certificate, condition_of}
+use Rattle.pc_show.specs.Canonical.{program_text}
+use Rattle.pc_certificate.specs.Certificate.{Certificate, condition_of}
 use Rattle.pc_cert.specs.CertificateTexts.{IsTextOf}
 use Rattle.pc_cert.specs.Conditions.{condition_text}
 use Rattle.pc_graph.specs.Lowering.{graph}

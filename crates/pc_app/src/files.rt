@@ -10,10 +10,12 @@ use crate::limits::{CERTIFICATE_BYTES, SCRIPT_BYTES, SOURCE_BYTES};
 use crate::malformed::{malformed_certificate, malformed_script};
 use crate::refusal::refusal_of;
 use crate::status::{MALFORMED, REFUSED, TOO_LONG};
-use pc_cert::{CertFault, Certificate, read_certificate};
+use pc_cert::{CertFault, read_certificate};
+use pc_certificate::Certificate;
 use pc_ports::{FetchFault, Store};
 use pc_runner::{Script, ScriptFault, read_script};
-use pc_syntax::{Program, SourceFault, read};
+use pc_program::Program;
+use pc_syntax::{SourceFault, read};
 use std::alloc::Global;
 
 /// The bytes of a file. `long` is the line that is answered where they are more than the limit.

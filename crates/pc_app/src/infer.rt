@@ -1,10 +1,10 @@
 //! What the words `infer` are answered: conditions, and their certificates.
 
 ghost use Rattle.std.specs.Prelude.{◌≡◌, ◌≤◌, None, ℕ, List, length, IfOk};
-ghost use Rattle.pc_syntax.specs.Loops.{first, whiles_of};
+ghost use Rattle.pc_program.specs.Loops.{first, whiles_of};
 ghost use Rattle.pc_graph.specs.Lowering.{graph};
 ghost use Rattle.pc_replay.specs.Accepts.{Accepts};
-ghost use Rattle.pc_cert.specs.Certificate.{condition_of, IsShowable};
+ghost use Rattle.pc_certificate.specs.Certificate.{condition_of, IsShowable};
 ghost use Rattle.pc_app.specs.Inferred.{Inferred};
 ghost use Rattle.pc_app.specs.Answers.{AnalysisAnswers, InferAnswers, CertifyAnswers};
 ghost use Rattle.pc_app.specs.Reading.{OrderIs};
@@ -15,11 +15,12 @@ use crate::answer::{Answer, Stop};
 use crate::files::source_in;
 use crate::refusal::refusal_at;
 use crate::status::{DONE, REFUSED};
-use pc_cert::{Certificate, show_certificate, show_condition};
+use pc_certificate::Certificate;
+use pc_cert::{show_certificate, show_condition};
 use pc_certify::infer;
 use pc_graph::lower;
 use pc_ports::Store;
-use pc_syntax::{Program, first_loop};
+use pc_program::{Program, first_loop};
 use pc_text::{NoMemory, Place};
 use std::alloc::Global;
 

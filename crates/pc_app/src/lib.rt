@@ -4,6 +4,7 @@
 mod answer;
 mod files;
 mod infer;
+mod laws;
 mod limits;
 mod malformed;
 mod refusal;
@@ -13,11 +14,10 @@ mod run;
 mod service;
 mod show;
 mod status;
-#[cfg(test)]
-mod tests;
 mod verdict;
 mod words;
 
+pub use laws::{accepted_programs_are_safe, infer_is_exact};
 pub use limits::{ALTERNATIVES, CERTIFICATE_BYTES, SCRIPT_BYTES, SOURCE_BYTES};
 pub use service::serve;
 pub use status::{

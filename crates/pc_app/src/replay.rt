@@ -8,11 +8,11 @@ ghost use Rattle.pc_app.specs.Words.{Replay};
 use crate::answer::{Answer, Stop};
 use crate::files::{certificate_in, source_in};
 use crate::ruling::answer_of_ruling;
-use pc_cert::Certificate;
+use pc_certificate::Certificate;
 use pc_graph::lower;
 use pc_ports::Store;
 use pc_replay::accept;
-use pc_syntax::Program;
+use pc_program::Program;
 use pc_text::NoMemory;
 use std::alloc::Global;
 

@@ -2,12 +2,13 @@
 
 ghost use Rattle.std.specs.Prelude.{◌≡◌, ◌++◌, length, OnOk, IfOk};
 ghost use Rattle.std.specs.List.{AllByRecursion};
-ghost use Rattle.pc_cert.specs.Certificate.{condition_of, SaysOf};
+ghost use Rattle.pc_certificate.specs.Certificate.{condition_of, SaysOf};
 ghost use Rattle.pc_app.specs.Rulings.{numbered, at_edge, at_row, refusal_text, ruling_status, ruling_text};
 
 use crate::answer::Answer;
 use crate::status::{DONE, FAILED};
-use pc_cert::{Certificate, show_condition};
+use pc_certificate::Certificate;
+use pc_cert::show_condition;
 use pc_replay::Ruling;
 use pc_text::{Names, NoMemory, Text};
 use std::alloc::Global;

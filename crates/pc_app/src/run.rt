@@ -10,7 +10,7 @@ use crate::files::{script_in, source_in};
 use crate::verdict::answer_of_verdict;
 use pc_ports::Store;
 use pc_runner::run;
-use pc_syntax::Program;
+use pc_program::Program;
 use std::alloc::Global;
 
 /// The answer to `run`.

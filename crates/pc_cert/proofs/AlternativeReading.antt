@@ -9,15 +9,17 @@ use Rattle.pc_rows.specs.declared.system.TheConstants.{PREMISES}
 use Rattle.pc_rows.specs.Linear.{Linear}
 use Rattle.pc_rows.specs.Evidence.{Proof, IsProof}
 use Rattle.pc_text.specs.Bytes.{Bytes}
-use Rattle.pc_cert.specs.declared.certificate.Annotated.{Annotated}
-use Rattle.pc_cert.specs.declared.certificate.Sizes.{Sizes}
-use Rattle.pc_cert.specs.declared.certificate.TheConstants.{ALTERNATIVES}
-use Rattle.pc_cert.specs.Words.{Words, is_word}
+use Rattle.pc_certificate.specs.declared.certificate.Annotated.{Annotated}
+use Rattle.pc_cert.specs.declared.sizes.Sizes.{Sizes}
+use Rattle.pc_certificate.specs.declared.certificate.TheConstants.{ALTERNATIVES}
+use Rattle.pc_text.specs.Words.{Words}
+use Rattle.pc_cert.specs.Forms.{is_word}
 use Rattle.pc_cert.specs.Faults.{Row, Point, Edge, Next, Proof as ProofLine}
 use Rattle.pc_cert.specs.Readers.{◌>>=◌, Unread, repeated, row_value, proof_value, row_reader, point_reader, proof_reader, edge_reader, annotated_reader, goes_on, begins}
 use Rattle.pc_cert.specs.CertificateTexts.{counts, row_line, proof_line, point_lines, edge_lines, numbered}
-use Rattle.pc_cert.proofs.WordLists.{joined, word_is}
-use Rattle.pc_cert.proofs.PlainWords.{IsPlain, ArePlain}
+use Rattle.pc_text.proofs.WordLists.{joined}
+use Rattle.pc_cert.proofs.NamedLines.{word_is}
+use Rattle.pc_text.proofs.PlainWords.{IsPlain, ArePlain}
 use Rattle.pc_cert.proofs.Spelled.{IsSpelled}
 use Rattle.pc_cert.proofs.RowSpelling.{IsRowOver, row_spelled}
 use Rattle.pc_cert.proofs.ProofSpelling.{proof_spelled}

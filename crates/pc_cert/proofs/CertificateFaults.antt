@@ -4,13 +4,14 @@ use Rattle.std.specs.Prelude.{◌&&◌, codes}
 use Rattle.pc_text.specs.Bytes.{Bytes}
 use Rattle.pc_rows.specs.Linear.{Linear}
 use Rattle.pc_rows.specs.Evidence.{Proof}
-use Rattle.pc_cert.specs.declared.certificate.Annotated.{Annotated}
-use Rattle.pc_cert.specs.declared.certificate.Sizes.{Sizes}
-use Rattle.pc_cert.specs.declared.certificate.TheConstants.{ALTERNATIVES}
+use Rattle.pc_certificate.specs.declared.certificate.Annotated.{Annotated}
+use Rattle.pc_cert.specs.declared.sizes.Sizes.{Sizes}
+use Rattle.pc_certificate.specs.declared.certificate.TheConstants.{ALTERNATIVES}
 use Rattle.pc_cert.specs.declared.fault.CertFault.{CertFault}
 use Rattle.pc_cert.specs.declared.fault.CertFault.TheVariants as fault
-use Rattle.pc_cert.specs.Certificate.{Certificate}
-use Rattle.pc_cert.specs.Words.{is_empty, is_word}
+use Rattle.pc_certificate.specs.Certificate.{Certificate}
+use Rattle.pc_text.specs.Words.{is_empty}
+use Rattle.pc_cert.specs.Forms.{is_word}
 use Rattle.pc_cert.specs.Faults.{Wanted, Version, Graph, Next, Point, Edge, sizes_of, in_order, alternative}
 use Rattle.pc_cert.specs.Readers.{◌>>=◌, Unread, read_line, repeated, point_reader, edge_reader, annotated_reader, goes_on, begins, alternatives_reader, is_over, whole, certificate_reader}
 use Rattle.pc_cert.proofs.LineReading.{give}

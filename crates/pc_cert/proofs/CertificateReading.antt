@@ -4,14 +4,14 @@ use Rattle.std.specs.Prelude.{codes}
 use Rattle.std.specs.List.{flat_map}
 use Rattle.pc_text.specs.Bytes.{Bytes}
 use Rattle.pc_rows.specs.declared.row.TheConstants.{VARIABLES}
-use Rattle.pc_cert.specs.declared.certificate.Annotated.{Annotated}
-use Rattle.pc_cert.specs.declared.certificate.Sizes.{Sizes}
-use Rattle.pc_cert.specs.declared.certificate.TheConstants.{ALTERNATIVES}
+use Rattle.pc_certificate.specs.declared.certificate.Annotated.{Annotated}
+use Rattle.pc_cert.specs.declared.sizes.Sizes.{Sizes}
+use Rattle.pc_certificate.specs.declared.certificate.TheConstants.{ALTERNATIVES}
 use Rattle.pc_cert.specs.declared.fault.CertFault.{CertFault}
-use Rattle.pc_cert.specs.Words.{Words}
+use Rattle.pc_text.specs.Words.{Words}
 use Rattle.pc_cert.specs.Readers.{◌>>=◌, Unread, annotated_reader, begins, alternatives_reader}
 use Rattle.pc_cert.specs.CertificateTexts.{point_lines, edge_lines, numbered, alternative_lines}
-use Rattle.pc_cert.proofs.WordLists.{joined}
+use Rattle.pc_text.proofs.WordLists.{joined}
 use Rattle.pc_cert.proofs.LineReading.{AreTaken, ReadsLines, ok_same, give}
 use Rattle.pc_cert.proofs.ListReading.{bind_ok, taken_both, lines_both, AreFew}
 use Rattle.pc_cert.proofs.AlternativeReading.{IsWhole, annotated_reads, next_line, begins_reads}

@@ -5,9 +5,11 @@ use Rattle.std.proofs.lemmas.Bool.{le-leb, eq-eqb}
 use Rattle.std.proofs.lemmas.Bool.Decides.{nat_tests}
 use Rattle.pc_text.specs.Bytes.{Bytes}
 use Rattle.pc_rows.specs.declared.row.TheConstants.{VARIABLES}
-use Rattle.pc_cert.specs.declared.certificate.TheConstants.{POINTS, EDGES}
+use Rattle.pc_certificate.specs.declared.certificate.TheConstants.{POINTS}
+use Rattle.pc_language.specs.declared.limits.TheConstants.{EDGES}
 use Rattle.pc_cert.specs.declared.fault.CertFault.TheVariants as fault
-use Rattle.pc_cert.specs.Words.{Words, is_empty, is_count, are_counts, is_named, number_at}
+use Rattle.pc_text.specs.Words.{Words, is_empty, is_count}
+use Rattle.pc_cert.specs.Forms.{are_counts, is_named, number_at}
 use Rattle.pc_cert.specs.Faults.{Wanted, Graph, sizes_of, are_within, has_form, keeps_rules}
 use Rattle.pc_cert.specs.Readers.{line_value, head_value}
 use Rattle.pc_cert.specs.Counts.{◌>>=◌, next_count, two_counts, three_counts}

@@ -4,7 +4,8 @@ use Rattle.pc_text.specs.Bytes.{Bytes}
 use Rattle.pc_rows.specs.Linear.{Linear}
 use Rattle.pc_rows.specs.Evidence.{Proof}
 use Rattle.pc_cert.specs.declared.fault.CertFault.{CertFault}
-use Rattle.pc_cert.specs.Words.{Words, words, number_at}
+use Rattle.pc_text.specs.Words.{Words, words}
+use Rattle.pc_cert.specs.Forms.{number_at}
 use Rattle.pc_cert.specs.Faults.{Wanted, Point, Row, Edge, Proof as ProofLine, in_order, brings, line_fault, or_else, fault_from}
 use Rattle.pc_cert.specs.Readers.{◌>>=◌, Unread, Reader, unless_fault, read_line, repeated, row_value, proof_value, row_reader, point_reader, proof_reader, edge_reader}
 use Rattle.pc_cert.proofs.LineReading.{give}

@@ -10,14 +10,16 @@ use Rattle.pc_rows.specs.declared.system.TheConstants.{PREMISES}
 use Rattle.pc_text.specs.Bytes.{Bytes}
 use Rattle.pc_text.specs.Digits.{natural_of}
 use Rattle.pc_text.specs.Numerals.{numeral}
-use Rattle.pc_cert.specs.declared.certificate.Sizes.{Sizes}
-use Rattle.pc_cert.specs.declared.certificate.TheConstants.{POINTS, EDGES}
-use Rattle.pc_cert.specs.Words.{Words, is_count, are_counts, is_named, is_word, number_at}
+use Rattle.pc_cert.specs.declared.sizes.Sizes.{Sizes}
+use Rattle.pc_certificate.specs.declared.certificate.TheConstants.{POINTS}
+use Rattle.pc_language.specs.declared.limits.TheConstants.{EDGES}
+use Rattle.pc_text.specs.Words.{Words, is_count}
+use Rattle.pc_cert.specs.Forms.{are_counts, is_named, is_word, number_at}
 use Rattle.pc_cert.specs.Faults.{Version, Graph, Point, Edge, sizes_of, are_within}
 use Rattle.pc_cert.specs.CertificateTexts.{counts, version_line}
-use Rattle.pc_cert.proofs.Numerals.{empty_is, count_is, natural_count, natural_integer}
-use Rattle.pc_cert.proofs.WordLists.{named_is, word_is}
-use Rattle.pc_cert.proofs.PlainWords.{IsPlain, ArePlain, numeral_plain}
+use Rattle.pc_text.proofs.NumeralWords.{empty_is, count_is, natural_count, natural_integer}
+use Rattle.pc_cert.proofs.NamedLines.{named_is, word_is}
+use Rattle.pc_text.proofs.PlainWords.{IsPlain, ArePlain, numeral_plain}
 use Rattle.pc_cert.proofs.Spelled.{IsSpelled}
 
 -- ---- counts

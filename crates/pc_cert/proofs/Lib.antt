@@ -1,6 +1,6 @@
-pub mod Numerals
-pub mod WordLists
+pub mod NamedLines
 pub mod Counted
+pub mod Ranges
 pub mod LineSteps
 pub mod PartSteps
 pub mod LineLaws
@@ -8,7 +8,7 @@ pub mod EndedLines
 pub mod Repeats
 pub mod Rounds
 pub mod Shown
-pub mod PlainWords
+pub mod PlainTexts
 pub mod Spelled
 pub mod RowSpelling
 pub mod ProofSpelling
@@ -22,10 +22,7 @@ pub mod FaultReading
 pub mod CertificateFaults
 pub mod PlainLines
 pub mod Meaning
-pub mod EntryRows
 pub mod Told
-pub mod Splits
-pub mod Decimals
 pub mod Names
 pub mod Sums
 pub mod Parts

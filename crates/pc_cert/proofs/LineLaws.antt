@@ -14,10 +14,12 @@ use Rattle.pc_text.specs.Digits.{natural_of}
 use Rattle.pc_text.specs.Numerals.{integer_of}
 use Rattle.pc_cert.specs.declared.fault.CertFault.{CertFault}
 use Rattle.pc_cert.specs.declared.fault.CertFault.TheVariants as fault
-use Rattle.pc_cert.specs.declared.words.Word.TheVariants as word
-use Rattle.pc_cert.specs.Words.{Words, is_count, is_numeral, are_numerals, are_pairs}
+use Rattle.pc_text.specs.declared.numerals.Word.TheVariants as word
+use Rattle.pc_text.specs.Words.{Words, is_count, is_numeral, word_of}
+use Rattle.pc_cert.specs.Forms.{are_numerals, are_pairs}
 use Rattle.pc_cert.specs.Faults.{Row, Proof as ProofLine, pairs_keep, part_keeps}
 use Rattle.pc_cert.specs.Readers.{◌>>=◌, unless_fault, line_value, row_value, parts_value, proof_value}
+use Rattle.pc_cert.proofs.Ranges.{word_is}
 use Rattle.pc_cert.specs.LineReaders.{broken, number_by, row_from, row_of, parts_from, proof_of}
 
 -- a value where the form is kept and the rules are, else the fault of line `n`
@@ -29,11 +31,16 @@ judged_broken true n x = refl
 judged_broken false n x = refl
 
 -- a number of a line, before words that are to have a form, and what is made of them
-number_first : {A : Type 0} (t u form rules : Bool) (z : ℤ) (n : ℕ) (ws : Words) (f : ℤ × Words → Result A CertFault) (x : A) → f (z, ws) ≡ judged form rules n x →
+number_by_first : {A : Type 0} (t u form rules : Bool) (z : ℤ) (n : ℕ) (ws : Words) (f : ℤ × Words → Result A CertFault) (x : A) → f (z, ws) ≡ judged form rules n x →
     (number_by (cond t (cond u (word.Number z) word.Past) word.Other) form n ws >>= f) ≡ judged (t && form) (u && rules) n x
-number_first true true form rules z n ws f x e = e
-number_first true false form rules z n ws f x e = judged_broken form n x
-number_first false u form rules z n ws f x e = refl
+number_by_first true true form rules z n ws f x e = e
+number_by_first true false form rules z n ws f x e = judged_broken form n x
+number_by_first false u form rules z n ws f x e = refl
+
+number_first : {A : Type 0} (w : Bytes) (form rules : Bool) (n : ℕ) (ws : Words) (f : ℤ × Words → Result A CertFault) (x : A) → f (integer_of w, ws) ≡ judged form rules n x →
+    (number_by (word_of w) form n ws >>= f) ≡ judged (is_numeral w && form) (in_range (integer_of w) && rules) n x
+number_first w form rules n ws f x e =
+    ap (λ o. number_by o form n ws >>= f) (word_is w) ∙ number_by_first (is_numeral w) (in_range (integer_of w)) form rules (integer_of w) n ws f x e
 
 -- ---- rows
 
@@ -47,7 +54,7 @@ row_from_is n v zero r [] = refl
 row_from_is n v zero r (w ∷ ws) = refl
 row_from_is n v (suc k) r [] = refl
 row_from_is n v (suc k) r (w ∷ ws) =
-    number_first (is_numeral w) (in_range (integer_of w)) (are_numerals k ws) (list_all in_range (map integer_of ws)) (integer_of w) n ws (λ x. row_from n (v + 1) k (with_coefficient r v x.0) x.1) _
+    number_first w (are_numerals k ws) (list_all in_range (map integer_of ws)) n ws (λ x. row_from n (v + 1) k (with_coefficient r v x.0) x.1) _
     (row_from_is n (v + 1) k (with_coefficient r v (integer_of w)) ws)
 
 abbrev pub linear : ℤ → List ℤ → Linear
@@ -95,7 +102,7 @@ judged_is false rules n x = refl
 pub row_is : (v n : ℕ) (ws : Words) → v ≤ VARIABLES → row_of v n ws ≡ line_value (Row v) (row_value v) n ws
 row_is v n [] h = refl
 row_is v n (w ∷ ws) h =
-    number_first (is_numeral w) (in_range (integer_of w)) (are_numerals v ws) (list_all in_range (map integer_of ws)) (integer_of w) n ws (λ x. row_from n 0 v (of_constant x.0) x.1) _
+    number_first w (are_numerals v ws) (list_all in_range (map integer_of ws)) n ws (λ x. row_from n 0 v (of_constant x.0) x.1) _
     (row_from_is n 0 v (of_constant (integer_of w)) ws)
     ∙ judged_same (is_numeral w && are_numerals v ws) (in_range (integer_of w) && list_all in_range (map integer_of ws)) n _ (row_value v (w ∷ ws))
     (λ e. row_set v (integer_of w) ws h (numerals_long v ws (and_parts (is_numeral w) (are_numerals v ws) e).1))
@@ -133,6 +140,6 @@ with_goal false rules n z ps = refl
 pub proof_is : (n : ℕ) (ws : Words) → proof_of n ws ≡ line_value ProofLine proof_value n ws
 proof_is n [] = refl
 proof_is n (w ∷ ws) =
-    number_first (is_numeral w) (in_range (integer_of w)) (are_pairs ws) (pairs_keep 0 ws) (integer_of w) n ws (λ x. parts_from n 0 [] x.1 >>= (λ ps. Ok (proof_with x.0 ps))) (proof_value (w ∷ ws))
+    number_first w (are_pairs ws) (pairs_keep 0 ws) n ws (λ x. parts_from n 0 [] x.1 >>= (λ ps. Ok (proof_with x.0 ps))) (proof_value (w ∷ ws))
     (ap (λ r. r >>= (λ ps. Ok (proof_with (integer_of w) ps))) (parts_from_is n 0 [] ws) ∙ with_goal (are_pairs ws) (pairs_keep 0 ws) n (integer_of w) (parts_value ws))
     ∙ judged_is (is_numeral w && are_pairs ws) (in_range (integer_of w) && pairs_keep 0 ws) n (proof_value (w ∷ ws))

@@ -3,11 +3,11 @@ use Rattle.std.proofs.Common.{◌≡◌, ◌∙◌, refl, ap, sym, subst, ℕ, �
 use Rattle.pc_text.specs.Bytes.{Bytes}
 use Rattle.pc_cert.specs.declared.fault.CertFault.{CertFault}
 use Rattle.pc_cert.specs.declared.fault.CertFault.TheVariants as fault
-use Rattle.pc_cert.specs.Words.{Words, words}
+use Rattle.pc_text.specs.Words.{Words, words}
 use Rattle.pc_cert.specs.Faults.{Wanted, has_form, keeps_rules}
 use Rattle.pc_cert.specs.Readers.{◌>>=◌, Unread, Reader, unless_fault, line_value, read_line}
-use Rattle.pc_cert.proofs.WordLists.{joined, line_of_words}
-use Rattle.pc_cert.proofs.PlainWords.{words_of_line}
+use Rattle.pc_text.proofs.WordLists.{joined, line_of_words}
+use Rattle.pc_text.proofs.PlainWords.{words_of_line}
 use Rattle.pc_cert.proofs.Spelled.{IsSpelled}
 use Rattle.pc_cert.proofs.EndedLines.{unread_of}
 

@@ -10,11 +10,13 @@ use Rattle.pc_text.specs.Bytes.{Bytes}
 use Rattle.pc_text.specs.Digits.{natural_of}
 use Rattle.pc_text.specs.Numerals.{integer_of}
 use Rattle.pc_cert.specs.declared.fault.CertFault.{CertFault}
-use Rattle.pc_cert.specs.declared.words.Word.{Word}
-use Rattle.pc_cert.specs.declared.words.Word.TheVariants as word
-use Rattle.pc_cert.specs.Words.{Words, is_count, is_numeral, are_numerals, are_pairs, count_of, word_of}
+use Rattle.pc_text.specs.declared.numerals.Word.{Word}
+use Rattle.pc_text.specs.declared.numerals.Word.TheVariants as word
+use Rattle.pc_text.specs.Words.{Words, is_count, is_numeral, count_of, word_of}
+use Rattle.pc_cert.specs.Forms.{are_numerals, are_pairs}
 use Rattle.pc_cert.specs.Readers.{◌>>=◌}
 use Rattle.pc_cert.specs.Faults.{part_keeps}
+use Rattle.pc_cert.proofs.Ranges.{word_is}
 use Rattle.pc_cert.specs.LineReaders.{next_number, row_from, broken, part_of, next_part}
 
 pub one_less : (n i : ℕ) → i < n → n - i ≡ suc (n - (i + 1))
@@ -66,7 +68,7 @@ word_part least n z false = ap (λ b. cond (b && not (is_zero z)) (Some (part n 
 
 -- the part of an index that may be capped and of a numeral is that of their words
 pub part_is : (least : ℕ) (i m : Bytes) → is_numeral m ≡ true → part_of least (min (natural_of i) (2 ^ 32 - 1)) (word_of m) ≡ cond (part_keeps least i m) (Some (part (natural_of i) (integer_of m))) None
-part_is least i m is = rw is (word_part least (natural_of i) (integer_of m) (in_range (integer_of m)))
+part_is least i m is = ap (part_of least (min (natural_of i) (2 ^ 32 - 1))) (word_is m) ∙ rw is (word_part least (natural_of i) (integer_of m) (in_range (integer_of m)))
 
 count_by : (t : Bool) (n m : ℕ) → cond t (Some n) None ≡ Some m → (t ≡ true) × (m ≡ n)
 count_by true n m e = (refl, cc)
@@ -89,7 +91,7 @@ module _ (n least index : ℕ) (i m : Bytes) (old mid new : Words) (e : old ≡ 
   is_index = (count_by (is_count i) (min (natural_of i) (2 ^ 32 - 1)) index (sym counted)).0
 
   is_multiplier : is_numeral m ≡ true
-  is_multiplier = other_by (is_numeral m) (cond (in_range (integer_of m)) (word.Number (integer_of m)) word.Past) numeral
+  is_multiplier = other_by (is_numeral m) (cond (in_range (integer_of m)) (word.Number (integer_of m)) word.Past) (λ e. numeral (word_is m ∙ e))
 
   told : part_of least index (word_of m) ≡ cond (part_keeps least i m) (Some (part (natural_of i) (integer_of m))) None
   told = ap (λ k. part_of least k (word_of m)) (count_by (is_count i) (min (natural_of i) (2 ^ 32 - 1)) index (sym counted)).1 ∙ part_is least i m is_multiplier

@@ -8,7 +8,7 @@ use Rattle.pc_rows.specs.Linear.{Linear}
 use Rattle.pc_text.specs.Bytes.{Bytes}
 use Rattle.pc_cert.specs.Conditions.{terms, sum_text, row_text, rows_text, line_text}
 use Rattle.pc_cert.specs.Law.{AreNames, IsOverNames, AreOver, TextDeterminesCondition}
-use Rattle.pc_cert.proofs.Splits.{Stops, same_cut, each-append, each_weaker}
+use Rattle.pc_text.proofs.Splits.{Stops, same_cut, each-append, each_weaker}
 use Rattle.pc_cert.proofs.Parts.{IsSumByte, is_sum_byte, are_sum_bytes, sum_text_bytes, same_sum}
 use Rattle.pc_cert.proofs.Rows.{parts, parts_text, parts_are_parts, same_parts}
 

@@ -4,11 +4,12 @@ use Rattle.std.specs.List.{AllByRecursion}
 use Rattle.std.proofs.lemmas.List.{map-append}
 use Rattle.pc_text.specs.Bytes.{Bytes}
 use Rattle.pc_cert.specs.declared.fault.CertFault.{CertFault}
-use Rattle.pc_cert.specs.Words.{Words, number_at}
+use Rattle.pc_text.specs.Words.{Words}
+use Rattle.pc_cert.specs.Forms.{number_at}
 use Rattle.pc_cert.specs.Faults.{Wanted}
 use Rattle.pc_cert.specs.Readers.{◌>>=◌, Unread, Reader, repeated, read_line}
 use Rattle.pc_cert.specs.CertificateTexts.{numbered}
-use Rattle.pc_cert.proofs.WordLists.{joined}
+use Rattle.pc_text.proofs.WordLists.{joined}
 use Rattle.pc_cert.proofs.Spelled.{IsSpelled}
 use Rattle.pc_cert.proofs.LineReading.{AreTaken, ReadsLines, ok_same, give, line_reads}
 use Rattle.pc_cert.proofs.EndedLines.{unread_of}

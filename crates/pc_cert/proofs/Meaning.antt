@@ -7,14 +7,14 @@ use Rattle.std.proofs.lemmas.List.Splits.{join_with_byte-slice_split, length-sli
 use Rattle.pc_text.specs.Bytes.{Bytes}
 use Rattle.pc_text.specs.Places.{is_line_feed}
 use Rattle.pc_cert.specs.declared.fault.CertFault.{CertFault}
-use Rattle.pc_cert.specs.Certificate.{Certificate}
-use Rattle.pc_cert.specs.Words.{Words}
+use Rattle.pc_certificate.specs.Certificate.{Certificate}
+use Rattle.pc_text.specs.Words.{Words}
 use Rattle.pc_cert.specs.Faults.{all_but_last, last_of, ended_lines, tail_of, fault_of}
 use Rattle.pc_cert.specs.Readers.{Unread, unread, certificate_reader, certificate_of}
 use Rattle.pc_cert.specs.CertificateTexts.{certificate_lines, certificate_text, lines_text, IsTextOf}
 use Rattle.pc_cert.specs.Answers.{Gives, Means, TextDeterminesCertificate, EachTextHasOneAnswer}
-use Rattle.pc_cert.proofs.WordLists.{joined}
-use Rattle.pc_cert.proofs.PlainWords.{lines_of_text}
+use Rattle.pc_text.proofs.WordLists.{joined}
+use Rattle.pc_cert.proofs.PlainTexts.{lines_of_text}
 use Rattle.pc_cert.proofs.WholeReading.{certificate_sound, certificate_complete}
 use Rattle.pc_cert.proofs.PlainLines.{certificate_plain}
 use Rattle.pc_cert.proofs.CertificateFaults.{fault_in_answer, certificate_finds}

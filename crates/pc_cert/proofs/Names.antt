@@ -11,7 +11,7 @@ use Rattle.pc_text.specs.declared.lexeme.Class.TheVariants.{Letter}
 use Rattle.pc_text.specs.Bytes.{Bytes}
 use Rattle.pc_text.specs.Lexemes.{HasForm, EachPasses, class, in_word}
 use Rattle.pc_text.specs.Named.{AreDistinct, number_of}
-use Rattle.pc_cert.proofs.Splits.{Begins}
+use Rattle.pc_text.proofs.Splits.{Begins}
 
 -- the bytes of the parts of a sum: digits, letters, `_` and `*`, and never `>`
 abbrev pub IsPartByte : ℕ → Type 0

@@ -12,7 +12,8 @@ use Rattle.pc_text.specs.Bytes.{Bytes}
 use Rattle.pc_text.specs.Digits.{natural_of}
 use Rattle.pc_text.specs.Numerals.{integer_of}
 use Rattle.pc_cert.specs.declared.fault.CertFault.{CertFault}
-use Rattle.pc_cert.specs.Words.{Words, is_count, is_numeral, are_pairs}
+use Rattle.pc_text.specs.Words.{Words, is_count, is_numeral}
+use Rattle.pc_cert.specs.Forms.{are_pairs}
 use Rattle.pc_cert.specs.Faults.{part_keeps}
 use Rattle.pc_cert.specs.LineReaders.{broken, next_part, parts_from}
 use Rattle.pc_cert.proofs.LineSteps.{part}

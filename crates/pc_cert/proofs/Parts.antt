@@ -6,7 +6,7 @@ use Rattle.std.proofs.lemmas.Bool.{and_parts, leb-true, eqb-false, not-true}
 use Rattle.pc_text.specs.Bytes.{Bytes}
 use Rattle.pc_cert.specs.Conditions.{Part, sign, part_text, sum_text}
 use Rattle.pc_cert.proofs.Names.{IsPartByte}
-use Rattle.pc_cert.proofs.Splits.{Stops, Begins, same_cut, each-append, each_weaker}
+use Rattle.pc_text.proofs.Splits.{Stops, Begins, same_cut, each-append, each_weaker}
 
 -- the bytes of a sum: those of parts, space, `+` and `-`
 abbrev pub IsSumByte : ℕ → Type 0

@@ -5,11 +5,11 @@ use Rattle.std.specs.List.{AllByRecursion, flat_map}
 use Rattle.pc_rows.specs.Linear.{Linear}
 use Rattle.pc_rows.specs.Evidence.{Proof}
 use Rattle.pc_rows.proofs.Joining.{each_join}
-use Rattle.pc_cert.specs.declared.certificate.Annotated.{Annotated}
-use Rattle.pc_cert.specs.Certificate.{Certificate}
-use Rattle.pc_cert.specs.Words.{Words}
+use Rattle.pc_certificate.specs.declared.certificate.Annotated.{Annotated}
+use Rattle.pc_certificate.specs.Certificate.{Certificate}
+use Rattle.pc_text.specs.Words.{Words}
 use Rattle.pc_cert.specs.CertificateTexts.{row_line, proof_line, point_lines, edge_lines, numbered, alternative_lines, certificate_lines}
-use Rattle.pc_cert.proofs.PlainWords.{IsPlain, numerals_plain}
+use Rattle.pc_text.proofs.PlainWords.{IsPlain, numerals_plain}
 use Rattle.pc_cert.proofs.ProofSpelling.{proof_plain}
 use Rattle.pc_cert.proofs.HeadSpelling.{counts_plain, point_plain, edge_plain, graph_plain, precond_plain, one_plain}
 use Rattle.pc_cert.proofs.AlternativeReading.{alternative_plain, end_plain}

@@ -13,13 +13,14 @@ use Rattle.pc_text.specs.Digits.{natural_of}
 use Rattle.pc_text.specs.Numerals.{numeral, integer_of}
 use Rattle.pc_text.proofs.NumeralTexts.{integer_numeral}
 use Rattle.pc_rows.proofs.Ranges.{in_is}
-use Rattle.pc_cert.specs.Words.{Words, is_count, is_numeral, are_pairs}
+use Rattle.pc_text.specs.Words.{Words, is_count, is_numeral}
+use Rattle.pc_cert.specs.Forms.{are_pairs}
 use Rattle.pc_cert.specs.Faults.{Proof as ProofLine, has_form, keeps_rules, part_keeps, pairs_keep}
 use Rattle.pc_cert.specs.Readers.{parts_value, proof_value}
 use Rattle.pc_cert.specs.CertificateTexts.{proof_line}
-use Rattle.pc_cert.proofs.Numerals.{numeral_of, integer_is_numeral, count_is, natural_count, natural_integer}
+use Rattle.pc_text.proofs.NumeralWords.{numeral_of, integer_is_numeral, count_is, natural_count, natural_integer}
 use Rattle.pc_cert.proofs.PartSteps.{not_zero}
-use Rattle.pc_cert.proofs.PlainWords.{IsPlain, numeral_plain}
+use Rattle.pc_text.proofs.PlainWords.{IsPlain, numeral_plain}
 use Rattle.pc_cert.proofs.Spelled.{IsSpelled}
 use Rattle.pc_cert.proofs.LineLaws.{proof_with}
 use Rattle.pc_cert.proofs.LineSteps.{part}

@@ -5,8 +5,8 @@ use Rattle.pc_rows.specs.declared.rows.RowsFault.{RowsFault}
 use Rattle.pc_rows.specs.declared.rows.RowsFault.TheVariants.{Full, NoMemory}
 use Rattle.pc_rows.specs.Linear.{Linear}
 use Rattle.pc_rows.specs.Joins.{PushIs}
-use Rattle.pc_cert.specs.declared.certificate.Annotated.{Annotated}
-use Rattle.pc_cert.specs.declared.certificate.Sizes.{Sizes}
+use Rattle.pc_certificate.specs.declared.certificate.Annotated.{Annotated}
+use Rattle.pc_cert.specs.declared.sizes.Sizes.{Sizes}
 use Rattle.pc_cert.specs.declared.fault.CertFault.{CertFault}
 use Rattle.pc_cert.specs.Readers.{◌>>=◌, Unread, annotated_reader, begins, alternatives_reader}
 use Rattle.pc_cert.proofs.Repeats.{behind}

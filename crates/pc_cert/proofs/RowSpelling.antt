@@ -10,12 +10,13 @@ use Rattle.pc_rows.specs.Linear.{Linear, AllInRange, in_range, IsOver, IsRow}
 use Rattle.pc_text.specs.Numerals.{numeral, integer_of}
 use Rattle.pc_text.proofs.NumeralTexts.{integer_numeral}
 use Rattle.pc_rows.proofs.Ranges.{in_all, all_in}
-use Rattle.pc_cert.specs.Words.{Words, is_numeral, are_numerals}
+use Rattle.pc_text.specs.Words.{Words, is_numeral}
+use Rattle.pc_cert.specs.Forms.{are_numerals}
 use Rattle.pc_cert.specs.Faults.{Row}
 use Rattle.pc_cert.specs.Readers.{row_value}
 use Rattle.pc_cert.specs.CertificateTexts.{row_line}
-use Rattle.pc_cert.proofs.Numerals.{empty_is, numeral_of, integer_is_numeral}
-use Rattle.pc_cert.proofs.PlainWords.{numerals_plain}
+use Rattle.pc_text.proofs.NumeralWords.{empty_is, numeral_of, integer_is_numeral}
+use Rattle.pc_text.proofs.PlainWords.{numerals_plain}
 use Rattle.pc_cert.proofs.Spelled.{IsSpelled}
 use Rattle.pc_cert.proofs.LineLaws.{linear}
 

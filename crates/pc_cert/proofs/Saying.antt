@@ -2,8 +2,8 @@
 use Rattle.std.proofs.Common.{◌≡◌, ◌<◌, List, [], ◌∷◌, ◌++◌, length, map, refl, ap, arith}
 use Rattle.std.specs.List.{flat_map}
 use Rattle.pc_text.specs.Bytes.{Bytes}
-use Rattle.pc_cert.specs.declared.certificate.Annotated.{Annotated}
-use Rattle.pc_cert.specs.Certificate.{entry_rows}
+use Rattle.pc_certificate.specs.declared.certificate.Annotated.{Annotated}
+use Rattle.pc_certificate.specs.Certificate.{entry_rows}
 use Rattle.pc_cert.specs.Conditions.{line_text, rows_text, condition_text}
 
 lines_of : (names : List Bytes) (as' : List Annotated) →

@@ -9,9 +9,9 @@ use Rattle.pc_text.specs.Numerals.{numeral}
 use Rattle.pc_rows.specs.declared.proof.Part.{Part}
 use Rattle.pc_rows.specs.Linear.{Linear}
 use Rattle.pc_rows.proofs.Joining.{each_join}
-use Rattle.pc_cert.specs.Words.{Words}
+use Rattle.pc_text.specs.Words.{Words}
 use Rattle.pc_cert.specs.CertificateTexts.{row_line, line_text, lines_text, numbered, version_line}
-use Rattle.pc_cert.proofs.WordLists.{joined}
+use Rattle.pc_text.proofs.WordLists.{joined}
 use Rattle.pc_cert.proofs.ProofSpelling.{part_line}
 
 -- the words of a proof with these parts

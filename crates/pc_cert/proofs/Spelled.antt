@@ -1,8 +1,8 @@
 -- What it is that a line spells a value.
 use Rattle.std.proofs.Common.{◌≡◌, true}
-use Rattle.pc_cert.specs.Words.{Words}
+use Rattle.pc_text.specs.Words.{Words}
 use Rattle.pc_cert.specs.Faults.{Wanted, has_form, keeps_rules}
-use Rattle.pc_cert.proofs.PlainWords.{ArePlain}
+use Rattle.pc_text.proofs.PlainWords.{ArePlain}
 
 -- the lines that are wanted and keep the rules are those of the good values, each of one value
 pub record IsSpelled {A : Type 0} (wanted : Wanted) (value : Words → A) (line : A → Words) (good : A → Type 0) : Type 0 where

@@ -7,8 +7,8 @@ use Rattle.std.proofs.lemmas.Bool.{eqb-true, cond_both}
 use Rattle.pc_text.specs.Bytes.{Bytes}
 use Rattle.pc_cert.specs.Conditions.{Part, is_negative, times_name, term, constant_part}
 use Rattle.pc_cert.proofs.Names.{IsPartByte, StandsAlone}
-use Rattle.pc_cert.proofs.Splits.{Stops, Begins, same_cut, each-append, each_weaker, begins-append, begins_weaker}
-use Rattle.pc_cert.proofs.Decimals.{IsDigit, decimal, decimal_digits, decimal_begins, decimal_injective}
+use Rattle.pc_text.proofs.Splits.{Stops, Begins, same_cut, each-append, each_weaker, begins-append, begins_weaker}
+use Rattle.pc_text.proofs.Decimals.{IsDigit, decimal, decimal_digits, decimal_begins, decimal_injective}
 use Rattle.pc_cert.proofs.Parts.{IsPart}
 
 decimal_bytes : (n : ℕ) → AllByRecursion IsPartByte (decimal n)

@@ -3,7 +3,7 @@ use Rattle.std.proofs.Common.{◌≡◌, ◌∙◌, ap, sym, subst, ℕ, Result,
 use Rattle.pc_text.specs.Bytes.{Bytes}
 use Rattle.pc_cert.specs.declared.fault.CertFault.{CertFault}
 use Rattle.pc_cert.specs.declared.fault.CertFault.TheVariants as fault
-use Rattle.pc_cert.specs.Words.{Words, words}
+use Rattle.pc_text.specs.Words.{Words, words}
 use Rattle.pc_cert.specs.Faults.{Wanted}
 use Rattle.pc_cert.specs.Readers.{◌>>=◌, Unread, take_line, line_value, read_line}
 use Rattle.pc_cert.specs.Answers.{Unless, Gives, Reads}

@@ -9,17 +9,17 @@ use Rattle.pc_rows.specs.Linear.{Linear, IsRow, IsOver}
 use Rattle.pc_rows.specs.Joins.{IsRows}
 use Rattle.pc_rows.specs.Evidence.{IsProof}
 use Rattle.pc_text.specs.Bytes.{Bytes}
-use Rattle.pc_cert.specs.declared.certificate.Annotated.{Annotated}
-use Rattle.pc_cert.specs.declared.certificate.Sizes.{Sizes}
-use Rattle.pc_cert.specs.declared.certificate.TheConstants.{ALTERNATIVES}
+use Rattle.pc_certificate.specs.declared.certificate.Annotated.{Annotated}
+use Rattle.pc_cert.specs.declared.sizes.Sizes.{Sizes}
+use Rattle.pc_certificate.specs.declared.certificate.TheConstants.{ALTERNATIVES}
 use Rattle.pc_cert.specs.declared.fault.CertFault.TheVariants as fault
-use Rattle.pc_cert.specs.Certificate.{Certificate, IsAnnotation, IsShowable, IsAnnotated, IsCertificate}
-use Rattle.pc_cert.specs.Words.{is_empty}
+use Rattle.pc_certificate.specs.Certificate.{Certificate, IsAnnotation, IsShowable, IsAnnotated, IsCertificate}
+use Rattle.pc_text.specs.Words.{is_empty}
 use Rattle.pc_cert.specs.Faults.{Version, Graph, sizes_of}
 use Rattle.pc_cert.specs.Readers.{◌>>=◌, Unread, read_line, alternatives_reader, whole, certificate_reader}
 use Rattle.pc_cert.specs.CertificateTexts.{version_line, certificate_lines}
-use Rattle.pc_cert.proofs.WordLists.{joined}
-use Rattle.pc_cert.proofs.Numerals.{empty_is}
+use Rattle.pc_text.proofs.WordLists.{joined}
+use Rattle.pc_text.proofs.NumeralWords.{empty_is}
 use Rattle.pc_cert.proofs.RowSpelling.{IsRowOver}
 use Rattle.pc_cert.proofs.HeadSpelling.{AreWithin, graph_line, version_spelled, sizes_spelled}
 use Rattle.pc_cert.proofs.LineReading.{ok_same, line_reads}

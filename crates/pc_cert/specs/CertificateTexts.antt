@@ -5,9 +5,9 @@ use Rattle.pc_rows.specs.Linear.{Linear}
 use Rattle.pc_rows.specs.Evidence.{Proof}
 use Rattle.pc_text.specs.Bytes.{Bytes}
 use Rattle.pc_text.specs.Numerals.{numeral}
-use Rattle.pc_cert.specs.declared.certificate.Annotated.{Annotated}
-use Rattle.pc_cert.specs.Words.{Words}
-use Rattle.pc_cert.specs.Certificate.{Certificate, IsShowable, IsCertificate}
+use Rattle.pc_certificate.specs.declared.certificate.Annotated.{Annotated}
+use Rattle.pc_text.specs.Words.{Words}
+use Rattle.pc_certificate.specs.Certificate.{Certificate, IsShowable, IsCertificate}
 
 -- the words of counts behind a name
 abbrev pub counts : Bytes → List ℕ → Words

@@ -1,18 +1,13 @@
 -- The counts behind the name of a line, read word by word.
-use Rattle.std.specs.Prelude.{ℕ, if◌then◌else◌, [], ◌∷◌, option_map, Option, Some, None, bytes_eq}
+use Rattle.std.specs.Prelude.{ℕ, if◌then◌else◌, [], ◌∷◌, option_map, Option, Some, None}
 use Rattle.pc_text.specs.Bytes.{Bytes}
-use Rattle.pc_cert.specs.Words.{Words, is_empty, count_of}
+use Rattle.pc_text.specs.Words.{Words, is_empty, behind, count_of}
 
 infixl 10 ◌>>=◌
 -- a value handed on, if there is one
 abbrev pub ◌>>=◌ : {A B : Type 0} → Option A → (A → Option B) → Option B
 None >>= f = None
 Some x >>= f = f x
-
--- the words behind the name
-abbrev pub behind : Bytes → Words → Option Words
-behind name [] = None
-behind name (w ∷ ws) = if bytes_eq w name then Some ws else None
 
 -- the next word as a count, and the words behind it
 abbrev pub next_count : Words → Option (ℕ × Words)

@@ -1,6 +1,6 @@
 -- The fault of a text that is no certificate: which lines are wanted, and where the first one stands that is not as it is wanted.
 use Rattle.std.specs.Prelude.{ℕ, zero, suc, ◌+◌, ◌==◌, nat_lt, nat_le, Bool, true, false, not, ◌&&◌, ◌||◌, if◌then◌else◌, List, [], ◌∷◌, ◌++◌, map, replicate, Option, Some, None, codes}
-use Rattle.std.specs.List.{list_all, slice_split}
+use Rattle.std.specs.List.{list_all}
 use Rattle.pc_rows.specs.declared.row.TheConstants.{VARIABLES}
 use Rattle.pc_rows.specs.declared.rows.TheConstants.{ROWS}
 use Rattle.pc_rows.specs.declared.system.TheConstants.{PREMISES}
@@ -8,12 +8,14 @@ use Rattle.pc_rows.specs.Linear.{in_range, is_zero}
 use Rattle.pc_text.specs.Bytes.{Bytes}
 use Rattle.pc_text.specs.Digits.{natural_of}
 use Rattle.pc_text.specs.Numerals.{integer_of}
-use Rattle.pc_text.specs.Places.{is_line_feed}
-use Rattle.pc_cert.specs.declared.certificate.TheConstants.{POINTS, EDGES, ALTERNATIVES}
-use Rattle.pc_cert.specs.declared.certificate.Sizes.{Sizes}
+use Rattle.pc_text.specs.Lines.{lines}
+use Rattle.pc_certificate.specs.declared.certificate.TheConstants.{POINTS, ALTERNATIVES}
+use Rattle.pc_language.specs.declared.limits.TheConstants.{EDGES}
+use Rattle.pc_cert.specs.declared.sizes.Sizes.{Sizes}
 use Rattle.pc_cert.specs.declared.fault.CertFault.{CertFault}
 use Rattle.pc_cert.specs.declared.fault.CertFault.TheVariants as fault
-use Rattle.pc_cert.specs.Words.{Words, words, is_empty, is_numeral, are_numerals, are_counts, are_pairs, is_named, is_word, number_at}
+use Rattle.pc_text.specs.Words.{Words, words, is_empty, is_numeral}
+use Rattle.pc_cert.specs.Forms.{are_numerals, are_counts, are_pairs, is_named, is_word, number_at}
 
 -- what a line is to be
 pub data Wanted : Type 0 where
@@ -116,11 +118,11 @@ last_of (x ∷ y ∷ zs) = last_of (y ∷ zs)
 
 -- the lines that a line feed ends
 abbrev pub ended_lines : Bytes → List Bytes
-ended_lines b = all_but_last (slice_split is_line_feed b)
+ended_lines b = all_but_last (lines b)
 
 -- what stands behind the last line feed
 abbrev pub tail_of : Bytes → Bytes
-tail_of b = last_of (slice_split is_line_feed b)
+tail_of b = last_of (lines b)
 
 -- the fault of the first line at fault of a text, and nothing where it is the text of a certificate
 unfoldable pub fault_of : Bytes → Option CertFault

@@ -8,9 +8,10 @@ use Rattle.pc_text.specs.Digits.{natural_of}
 use Rattle.pc_text.specs.Numerals.{integer_of}
 use Rattle.pc_cert.specs.declared.fault.CertFault.{CertFault}
 use Rattle.pc_cert.specs.declared.fault.CertFault.TheVariants as fault
-use Rattle.pc_cert.specs.declared.words.Word.{Word}
-use Rattle.pc_cert.specs.declared.words.Word.TheVariants as word
-use Rattle.pc_cert.specs.Words.{Words, is_empty, is_count, is_numeral, are_numerals, are_pairs, word_of}
+use Rattle.pc_text.specs.declared.numerals.Word.{Word}
+use Rattle.pc_text.specs.declared.numerals.Word.TheVariants as word
+use Rattle.pc_text.specs.Words.{Words, is_empty, is_count, is_numeral, word_of}
+use Rattle.pc_cert.specs.Forms.{are_numerals, are_pairs}
 use Rattle.pc_cert.specs.Faults.{part_keeps}
 use Rattle.pc_cert.specs.Readers.{◌>>=◌}
 

@@ -8,13 +8,14 @@ use Rattle.pc_text.specs.Bytes.{Bytes}
 use Rattle.pc_text.specs.Digits.{natural_of}
 use Rattle.pc_text.specs.Numerals.{integer_of}
 use Rattle.pc_text.specs.Lines.{Left}
-use Rattle.pc_cert.specs.declared.certificate.Annotated.{Annotated}
-use Rattle.pc_cert.specs.declared.certificate.Sizes.{Sizes}
-use Rattle.pc_cert.specs.declared.certificate.TheConstants.{ALTERNATIVES}
+use Rattle.pc_certificate.specs.declared.certificate.Annotated.{Annotated}
+use Rattle.pc_cert.specs.declared.sizes.Sizes.{Sizes}
+use Rattle.pc_certificate.specs.declared.certificate.TheConstants.{ALTERNATIVES}
 use Rattle.pc_cert.specs.declared.fault.CertFault.{CertFault}
 use Rattle.pc_cert.specs.declared.fault.CertFault.TheVariants as fault
-use Rattle.pc_cert.specs.Certificate.{Certificate}
-use Rattle.pc_cert.specs.Words.{Words, words, is_empty, is_named, is_word, are_counts, number_at}
+use Rattle.pc_certificate.specs.Certificate.{Certificate}
+use Rattle.pc_text.specs.Words.{Words, words, is_empty}
+use Rattle.pc_cert.specs.Forms.{is_named, is_word, are_counts, number_at}
 use Rattle.pc_cert.specs.Faults.{Wanted, Version, Graph, Next, Point, Row, Edge, Proof as ProofLine, sizes_of, line_fault, ended_lines, tail_of}
 
 -- what is left of a text: the number of the next line, the lines that a line feed ends, and what stands behind the last of these

@@ -3,11 +3,11 @@
 ghost use Rattle.std.specs.Prelude.{◌≡◌, ◌<◌, ◌++◌, length, All, IfOk, OnOk, OnErr};
 ghost use Rattle.std.specs.List.{flat_map, AllByRecursion};
 ghost use Rattle.pc_cert.specs.Conditions.{rows_text, line_text, condition_text};
-ghost use Rattle.pc_rows.specs.Linear.{IsOver};
-ghost use Rattle.pc_cert.specs.Certificate.{entry_rows, condition_of, SaysOf};
+ghost use Rattle.pc_rows.specs.Linear.{InRange, IsOver};
+ghost use Rattle.pc_certificate.specs.Certificate.{entry_rows, condition_of, SaysOf};
 ghost use Rattle.pc_cert.specs.Law.{TextDeterminesCondition};
 
-use crate::certificate::{Annotated, Certificate};
+use pc_certificate::{Annotated, Certificate};
 use crate::row::push_row;
 use pc_rows::Rows;
 use pc_text::{Names, NoMemory, Text};

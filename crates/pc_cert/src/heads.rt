@@ -4,21 +4,13 @@ ghost use Rattle.std.specs.Prelude.{◌≡◌, ◌<◌, ◌-◌, ◌^◌, option
 ghost use Rattle.pc_cert.specs.Counts as spec;
 ghost use Rattle.pc_cert.specs.Faults.{Version, Graph, Next, sizes_of};
 ghost use Rattle.pc_cert.specs.Readers.{line_value, goes_on, head_value};
-ghost use Rattle.pc_cert.specs.Words.{words};
-ghost use Rattle.pc_cert.specs.declared.certificate.Sizes.{Sizes};
+ghost use Rattle.pc_text.specs.Words.{words};
+ghost use Rattle.pc_cert.specs.declared.sizes.Sizes.{Sizes};
 
-use crate::certificate::{ALTERNATIVES, Sizes};
+use pc_certificate::ALTERNATIVES;
+use crate::sizes::Sizes;
 use crate::fault::CertFault;
-use crate::words::{Words, count_of};
-
-/// The words behind the name of a line, nothing where it has another.
-fn behind<'a>(line: &'a [u8], name: &[u8]) -> Option<Words<'a>>
-    ensures { result ≡ spec.behind name.now (words line.now) }
-{
-    let mut words = Words::new(line);
-    let word = words.next()?;
-    if word == name { Some(words) } else { None }
-}
+use pc_text::{Words, count_of};
 
 /// The next word as a count.
 fn next_count(words: &mut Words) -> Option<u32>
@@ -31,7 +23,7 @@ fn next_count(words: &mut Words) -> Option<u32>
 fn two_counts(line: &[u8], name: &[u8]) -> Option<(u32, u32)>
     ensures { result ≡ spec.two_counts name.now (words line.now) }
 {
-    let mut words = behind(line, name)?;
+    let mut words = Words::behind(line, name)?;
     let first = next_count(&mut words)?;
     let second = next_count(&mut words)?;
     if words.is_empty() {
@@ -45,7 +37,7 @@ fn two_counts(line: &[u8], name: &[u8]) -> Option<(u32, u32)>
 fn three_counts(line: &[u8], name: &[u8]) -> Option<(u32, u32, u32)>
     ensures { result ≡ spec.three_counts name.now (words line.now) }
 {
-    let mut words = behind(line, name)?;
+    let mut words = Words::behind(line, name)?;
     let first = next_count(&mut words)?;
     let second = next_count(&mut words)?;
     let third = next_count(&mut words)?;

@@ -4,7 +4,6 @@
 #![tactic(auto)]
 
 mod alternatives;
-mod certificate;
 mod fault;
 mod heads;
 mod laws;
@@ -15,10 +14,10 @@ mod reading;
 mod row;
 mod row_lines;
 mod showing;
-mod words;
+mod sizes;
 
 pub use alternatives::{push_rows, show_condition, text_determines_condition};
-pub use certificate::{ALTERNATIVES, Annotated, Certificate, EDGES, POINTS};
+pub use pc_certificate::{ALTERNATIVES, Annotated, Certificate, EDGES, POINTS};
 pub use fault::CertFault;
 pub use laws::{each_text_has_one_answer, text_determines_certificate};
 pub use lengths::texts_are_short;

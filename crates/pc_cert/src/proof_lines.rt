@@ -3,11 +3,12 @@
 ghost use Rattle.std.specs.Prelude.{◌≡◌, []};
 ghost use Rattle.pc_cert.specs.Answers.{Gives, Reads};
 ghost use Rattle.pc_cert.specs.LineReaders as spec;
-ghost use Rattle.pc_cert.specs.Words.{words, are_pairs};
+ghost use Rattle.pc_text.specs.Words.{IsFit, words};
+ghost use Rattle.pc_cert.specs.Forms.{are_pairs};
 
 use crate::fault::{CertFault, broken};
-use crate::words::{Word, Words, count_of, is_count, is_numeral};
 use pc_rows::{Number, PREMISES, Part, Parts, Proof};
+use pc_text::{Word, Words, count_of, is_count, is_numeral};
 use std::alloc::Global;
 
 /// Whether pairs of an index and a multiplier are left, and nothing else.
@@ -26,11 +27,13 @@ fn are_pairs(words: &mut Words) -> bool
 /// The part that an index and a multiplier make, which keeps the rules where the index is at least
 /// `least`. Nothing where it breaks one.
 fn part_of(index: u32, multiplier: Word, least: u32) -> Option<Part>
+    requires { IsFit multiplier }
     ensures { result ≡ spec.part_of least index multiplier }
 {
     match multiplier {
         Word::Number(multiplier)
-            if least <= index && index < PREMISES as u32 && !multiplier.is_zero() => {
+            if least <= index && index < PREMISES as u32 && !(multiplier == 0) => {
+            let multiplier = Number::new(multiplier);
             Some(Part { index, multiplier })
         }
         _ => None,
@@ -81,7 +84,7 @@ fn goal(words: &mut Words, number: u32) -> Result<Number, CertFault>
         return Err(CertFault::Form(number));
     };
     match Word::of(word) {
-        Word::Number(n) => Ok(n),
+        Word::Number(n) => Ok(Number::new(n)),
         Word::Past => Err(broken(are_pairs(words), number)),
         Word::Other => Err(CertFault::Form(number)),
     }

@@ -4,10 +4,11 @@ ghost use Rattle.std.specs.Prelude.{◌≡◌, ◌≤◌, ◌<◌, ◌^◌, leng
 ghost use Rattle.pc_cert.specs.Answers.{Reads, ReadsLine, Ends};
 ghost use Rattle.pc_cert.specs.Faults.{Version, Graph, Point, Edge, sizes_of};
 ghost use Rattle.pc_cert.specs.Readers as spec;
-ghost use Rattle.pc_cert.specs.Words.{number_at};
-ghost use Rattle.pc_cert.specs.declared.certificate.Sizes.{Sizes};
+ghost use Rattle.pc_cert.specs.Forms.{number_at};
+ghost use Rattle.pc_cert.specs.declared.sizes.Sizes.{Sizes};
 
-use crate::certificate::{ALTERNATIVES, Sizes};
+use pc_certificate::ALTERNATIVES;
+use crate::sizes::Sizes;
 use crate::fault::CertFault;
 use crate::{heads, proof_lines, row_lines};
 use pc_rows::{PREMISES, Proof, ROWS, Row, VARIABLES};

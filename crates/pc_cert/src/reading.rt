@@ -3,10 +3,11 @@
 ghost use Rattle.std.specs.Prelude.{◌≤◌, ◌<◌, ◌-◌, ◌^◌, length, IfOk};
 ghost use Rattle.pc_cert.specs.Answers.{Gives, Reads, Means};
 ghost use Rattle.pc_cert.specs.CertificateTexts.{IsTextOf};
-ghost use Rattle.pc_cert.specs.Certificate.{Certificate as Claim};
+ghost use Rattle.pc_certificate.specs.Certificate.{Certificate as Claim};
 ghost use Rattle.pc_cert.specs.Readers as spec;
 
-use crate::certificate::{ALTERNATIVES, Annotated, Certificate, Sizes};
+use pc_certificate::{ALTERNATIVES, Annotated, Certificate};
+use crate::sizes::Sizes;
 use crate::fault::CertFault;
 use crate::reader::Reader;
 use pc_rows::{Proof, ROWS, Rows, VARIABLES};

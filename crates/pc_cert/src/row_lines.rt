@@ -3,11 +3,12 @@
 ghost use Rattle.std.specs.Prelude.{◌≡◌, ◌≤◌, ◌-◌};
 ghost use Rattle.pc_cert.specs.Answers.{Gives, Reads};
 ghost use Rattle.pc_cert.specs.LineReaders as spec;
-ghost use Rattle.pc_cert.specs.Words.{words, are_numerals};
+ghost use Rattle.pc_text.specs.Words.{words};
+ghost use Rattle.pc_cert.specs.Forms.{are_numerals};
 
 use crate::fault::{CertFault, broken};
-use crate::words::{Word, Words, is_numeral};
 use pc_rows::{Number, Row, VARIABLES};
+use pc_text::{Word, Words, is_numeral};
 use std::alloc::Global;
 
 /// Whether exactly so many numerals are left.
@@ -31,7 +32,7 @@ fn next_number(words: &mut Words, behind: usize, number: u32) -> Result<Number, 
         return Err(CertFault::Form(number));
     };
     match Word::of(word) {
-        Word::Number(n) => Ok(n),
+        Word::Number(n) => Ok(Number::new(n)),
         Word::Past => Err(broken(are_numerals(words, behind), number)),
         Word::Other => Err(CertFault::Form(number)),
     }

@@ -5,10 +5,10 @@ ghost use Rattle.std.specs.List.{AllByRecursion, flat_map};
 ghost use Rattle.pc_rows.specs.Joins.{IsRows};
 ghost use Rattle.pc_rows.specs.Evidence.{IsProof};
 ghost use Rattle.pc_text.specs.Numerals.{numeral};
-ghost use Rattle.pc_cert.specs.Certificate.{IsShowable, IsAnnotated};
+ghost use Rattle.pc_certificate.specs.Certificate.{IsShowable, IsAnnotated};
 ghost use Rattle.pc_cert.specs.CertificateTexts.{counts, row_line, proof_line, point_lines, edge_lines, alternative_lines, line_text, lines_text, numbered, version_line, sizes_line, IsTextOf};
 
-use crate::certificate::{Annotated, Certificate};
+use pc_certificate::{Annotated, Certificate};
 use pc_rows::{Proof, Row, Rows, VARIABLES};
 use pc_text::{NoMemory, Text};
 use sqlite_items::Items;

@@ -4,15 +4,15 @@ use Rattle.std.specs.Prelude.{◌⊎◌}
 use Rattle.std.specs.List.{AllByRecursion}
 use Rattle.pc_rows.specs.declared.rows.NoMemory.{NoMemory}
 use Rattle.pc_rows.specs.Linear.{Linear, State, MeetsAll}
-use Rattle.pc_graph.specs.Flow.{Flow}
-use Rattle.pc_graph.specs.Shape.{IsGraph}
+use Rattle.pc_flow.specs.Flow.{Flow}
+use Rattle.pc_flow.specs.Shape.{IsGraph}
 use Rattle.pc_lower.specs.Annotation.{rows_at, no_rows, NoHeads}
 use Rattle.pc_lower.specs.Need.{need}
 use Rattle.pc_lower.specs.Laws.{IsComplete}
-use Rattle.pc_cert.specs.declared.certificate.Annotated.{Annotated}
-use Rattle.pc_cert.specs.Certificate.{IsAnnotation, IsShowable, entry_rows, condition_of}
+use Rattle.pc_certificate.specs.declared.certificate.Annotated.{Annotated}
+use Rattle.pc_certificate.specs.Certificate.{IsAnnotation, IsShowable, entry_rows, condition_of}
 use Rattle.pc_entail.proofs.Finding.{contradictory_states}
-use Rattle.pc_graph.proofs.Lists.{each_more}
+use Rattle.pc_flow.proofs.Lists.{each_more}
 use Rattle.pc_replay.specs.Accepts.{Accepts}
 use Rattle.pc_certify.specs.declared.inference.TheConstants.{CANDIDATES}
 use Rattle.pc_certify.specs.Causes.{Fails}

@@ -7,13 +7,13 @@ use Rattle.pc_rows.specs.declared.rows.NoMemory.{NoMemory}
 use Rattle.pc_rows.specs.declared.system.TheConstants.{PREMISES}
 use Rattle.pc_rows.specs.Linear.{Linear, IsOver}
 use Rattle.pc_rows.specs.Evidence.{Proof}
-use Rattle.pc_graph.specs.Arc.{Arc}
-use Rattle.pc_graph.specs.Carry.{back}
-use Rattle.pc_graph.specs.Flow.{Flow}
+use Rattle.pc_flow.specs.Arc.{Arc}
+use Rattle.pc_flow.specs.Carry.{back}
+use Rattle.pc_flow.specs.Flow.{Flow}
 use Rattle.pc_lower.specs.Annotation.{rows_at, AreOver}
 use Rattle.pc_lower.specs.Laws.{IsComplete}
-use Rattle.pc_cert.specs.declared.certificate.Annotated.{Annotated}
-use Rattle.pc_graph.proofs.Lists.{each_more}
+use Rattle.pc_certificate.specs.declared.certificate.Annotated.{Annotated}
+use Rattle.pc_flow.proofs.Lists.{each_more}
 use Rattle.pc_replay.specs.Accepts.{RowProved, EdgeProved, AlternativeProved, Accepts}
 use Rattle.pc_replay.specs.Flaws.{asked}
 use Rattle.pc_replay.specs.Shape.{IsShaped}

@@ -6,9 +6,9 @@ use Rattle.pc_rows.specs.declared.system.TheConstants.{PREMISES}
 use Rattle.pc_rows.specs.Linear.{Linear}
 use Rattle.pc_rows.specs.Joins.{is_covered}
 use Rattle.pc_rows.specs.Evidence.{Proof}
-use Rattle.pc_graph.specs.declared.point.PointInfo.{PointInfo}
-use Rattle.pc_graph.specs.Arc.{Arc}
-use Rattle.pc_graph.specs.Carry.{back, test_rows}
+use Rattle.pc_flow.specs.declared.point.PointInfo.{PointInfo}
+use Rattle.pc_flow.specs.Arc.{Arc}
+use Rattle.pc_flow.specs.Carry.{back, test_rows}
 use Rattle.pc_lower.specs.Annotation.{rows_at, is_head}
 use Rattle.pc_lower.specs.Laws.{IsCovered}
 use Rattle.pc_replay.specs.Accepts.{RowProved}

@@ -3,7 +3,7 @@ use Rattle.std.proofs.Common.{◌≡◌, ℕ, zero, suc, ◌+◌, ◌≤◌, Lis
 use Rattle.std.specs.List.{AllByRecursion, zip}
 use Rattle.std.proofs.lemmas.List.{take_more, take_all}
 use Rattle.std.proofs.lemmas.Option.{slice_get_within, get_or_from_slice_get}
-use Rattle.pc_graph.specs.Lists.{AnyOf, In}
+use Rattle.pc_flow.specs.Lists.{AnyOf, In}
 use Rattle.pc_certify.specs.Lists.{Pairwise}
 
 -- what holds of each item, or of some

@@ -4,9 +4,9 @@ use Rattle.std.specs.Prelude.{IfOk}
 use Rattle.pc_rows.specs.declared.rows.NoMemory.{NoMemory}
 use Rattle.pc_rows.specs.Linear.{Linear}
 use Rattle.pc_rows.specs.Evidence.{Proof}
-use Rattle.pc_graph.specs.declared.what.What.{What}
-use Rattle.pc_graph.specs.Carry.{BackFits, back}
-use Rattle.pc_graph.specs.Lists.{AnyOf}
+use Rattle.pc_flow.specs.declared.what.What.{What}
+use Rattle.pc_flow.specs.Carry.{BackFits, back}
+use Rattle.pc_flow.specs.Lists.{AnyOf}
 use Rattle.pc_replay.specs.Accepts.{Proves, RowProved}
 use Rattle.pc_certify.specs.Causes.{IsNotShown, SumIsPast, RowFails}
 use Rattle.pc_certify.specs.Lists.{Pairwise}

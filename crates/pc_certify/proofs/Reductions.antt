@@ -5,11 +5,11 @@ use Rattle.std.specs.List.{AllByRecursion}
 use Rattle.std.proofs.lemmas.List.{get_or-set_same, get_or-set_other}
 use Rattle.pc_rows.specs.Linear.{Linear, State, MeetsAll, IsOver}
 use Rattle.pc_rows.specs.Evidence.{Proof}
-use Rattle.pc_graph.specs.declared.what.What.TheVariants.{Enter}
-use Rattle.pc_graph.specs.Arc.{arc}
-use Rattle.pc_graph.specs.Flow.{Flow}
+use Rattle.pc_flow.specs.declared.what.What.TheVariants.{Enter}
+use Rattle.pc_flow.specs.Arc.{arc}
+use Rattle.pc_flow.specs.Flow.{Flow}
 use Rattle.pc_lower.specs.Annotation.{rows_at}
-use Rattle.pc_cert.specs.declared.certificate.Annotated.{Annotated}
+use Rattle.pc_certificate.specs.declared.certificate.Annotated.{Annotated}
 use Rattle.pc_entail.specs.Reduction.{Thinned, IsSplit, RemovesShown}
 use Rattle.pc_entail.proofs.Removing.{stay_each}
 use Rattle.pc_replay.specs.Accepts.{RowProved}

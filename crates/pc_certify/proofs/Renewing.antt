@@ -7,16 +7,16 @@ use Rattle.pc_rows.specs.declared.rows.NoMemory.{NoMemory}
 use Rattle.pc_rows.specs.declared.system.TheConstants.{PREMISES}
 use Rattle.pc_rows.specs.Linear.{Linear, IsOver}
 use Rattle.pc_rows.specs.Evidence.{Proof}
-use Rattle.pc_graph.specs.declared.point.PointInfo.{PointInfo}
-use Rattle.pc_graph.specs.declared.what.What.TheVariants.{Enter}
-use Rattle.pc_graph.specs.Arc.{Arc, arc}
-use Rattle.pc_graph.specs.Carry.{test_rows}
-use Rattle.pc_graph.specs.Flow.{Flow}
-use Rattle.pc_graph.specs.Lists.{AnyOf}
-use Rattle.pc_graph.specs.Shape.{IsGraph, IsHead, LeadsUp}
+use Rattle.pc_flow.specs.declared.point.PointInfo.{PointInfo}
+use Rattle.pc_flow.specs.declared.what.What.TheVariants.{Enter}
+use Rattle.pc_flow.specs.Arc.{Arc, arc}
+use Rattle.pc_flow.specs.Carry.{test_rows}
+use Rattle.pc_flow.specs.Flow.{Flow}
+use Rattle.pc_flow.specs.Lists.{AnyOf}
+use Rattle.pc_flow.specs.Shape.{IsGraph, IsHead, LeadsUp}
 use Rattle.pc_lower.specs.Annotation.{rows_at, AreOver}
-use Rattle.pc_cert.specs.declared.certificate.Annotated.{Annotated}
-use Rattle.pc_graph.proofs.Lists.{each_more}
+use Rattle.pc_certificate.specs.declared.certificate.Annotated.{Annotated}
+use Rattle.pc_flow.proofs.Lists.{each_more}
 use Rattle.pc_lower.proofs.Variables.{each_set}
 use Rattle.pc_replay.specs.Accepts.{RowProved}
 use Rattle.pc_replay.specs.Flaws.{asked}

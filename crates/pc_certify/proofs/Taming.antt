@@ -8,14 +8,14 @@ use Rattle.pc_rows.specs.Joins.{is_at_most}
 use Rattle.pc_rows.specs.Substitution.{carried, lesser}
 use Rattle.pc_rows.proofs.Bounding.{product_within, sum_within, opposite_within, lesser_within, within_in_range, more_within, scale_within, add_within, negate_within, at_within, set_within, small_substitution_fits}
 use Rattle.pc_rows.proofs.Joining.{each_join}
-use Rattle.pc_syntax.specs.Machine.{end_of}
+use Rattle.pc_language.specs.Ends.{end_of}
 use Rattle.pc_elim.proofs.SmallRows.{row_more, row_in_range}
-use Rattle.pc_graph.specs.declared.what.What.{What}
-use Rattle.pc_graph.specs.declared.what.What.TheVariants.{Enter, Test, Set, Check}
-use Rattle.pc_graph.specs.Arc.{Arc}
-use Rattle.pc_graph.specs.Carry.{BackFits, back, test_rows}
-use Rattle.pc_graph.specs.Flow.{Flow}
-use Rattle.pc_graph.specs.Lists.{AnyOf}
+use Rattle.pc_flow.specs.declared.what.What.{What}
+use Rattle.pc_flow.specs.declared.what.What.TheVariants.{Enter, Test, Set, Check}
+use Rattle.pc_flow.specs.Arc.{Arc}
+use Rattle.pc_flow.specs.Carry.{BackFits, back, test_rows}
+use Rattle.pc_flow.specs.Flow.{Flow}
+use Rattle.pc_flow.specs.Lists.{AnyOf}
 use Rattle.pc_lower.specs.Annotation.{rows_at, no_rows, NoHeads}
 use Rattle.pc_lower.specs.Need.{need}
 use Rattle.pc_lower.specs.Tame.{tame_bound, HasTameNumbers, AreTame, IsTame}
@@ -34,7 +34,7 @@ zeros_within m (suc n) (z ∷ zs) h = (h.0, zeros_within m n zs h.1)
 abbrev carried_bound : ℕ → ℕ
 carried_bound m = m + m * m + m * m
 
-carried_within : (m : ℕ) (r form : Linear) (x : ℕ) (lo hi : ℤ) → Within m r → Within m form → IsWithin m lo → IsWithin m hi → Within (carried_bound m) (carried r x form lo hi)
+carried_within : (m : ℕ) (r form : Linear) (x : ℕ) (lo hi : ℤ) → Within m r → Within m form → IsWithin m lo → IsWithin m hi → Within (carried_bound m) (carried r x form (Some lo) (Some hi))
 carried_within m r form x lo hi hr hf hl hh =
     let c = coefficient r x in
     let hc = at_within m r.coefficients x hr.coefficients in
@@ -51,7 +51,7 @@ carried_within m r form x lo hi hr hf hl hh =
     }
 
 substituted_within : (m : ℕ) (r form : Linear) (x : ℕ) (lo hi : ℤ) (t : Bool) → Within m r → Within m form → IsWithin m lo → IsWithin m hi →
-    Within (carried_bound m) (cond t r (carried r x form lo hi))
+    Within (carried_bound m) (cond t r (carried r x form (Some lo) (Some hi)))
 substituted_within m r form x lo hi true hr hf hl hh = row_more m (carried_bound m) r (omega arith) hr
 substituted_within m r form x lo hi false hr hf hl hh = carried_within m r form x lo hi hr hf hl hh
 
@@ -66,7 +66,7 @@ back_fits : (w : What) (r : Linear) → HasTameNumbers w → Within tame_bound r
 back_fits (Enter params) r tame h = tt
 back_fits (Test own) r tame h = tt
 back_fits (Check own) r tame h = tt
-back_fits (Set x form lo hi) r tame h = small_substitution_fits tame_bound r form x (end_of lo) (end_of hi) (omega arith) h tame.0 tame.1 tame.2
+back_fits (Set x form lo hi) r tame h = small_substitution_fits tame_bound r form x (Some (end_of lo)) (Some (end_of hi)) (omega arith) h tame.0 tame.1 tame.2
 
 -- their negations
 

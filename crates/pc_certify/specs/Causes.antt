@@ -4,12 +4,12 @@ use Rattle.std.specs.List.{find}
 use Rattle.pc_rows.specs.Linear.{Linear, InRange, IsInRange, negation}
 use Rattle.pc_rows.specs.Joins.{is_at_most}
 use Rattle.pc_rows.specs.Modest.{IsModest}
-use Rattle.pc_graph.specs.declared.point.PointInfo.{PointInfo}
-use Rattle.pc_graph.specs.declared.what.What.{What}
-use Rattle.pc_graph.specs.Arc.{Arc}
-use Rattle.pc_graph.specs.Carry.{BackFits, back, test_rows}
-use Rattle.pc_graph.specs.Flow.{Flow}
-use Rattle.pc_graph.specs.Lists.{AnyOf}
+use Rattle.pc_flow.specs.declared.point.PointInfo.{PointInfo}
+use Rattle.pc_flow.specs.declared.what.What.{What}
+use Rattle.pc_flow.specs.Arc.{Arc}
+use Rattle.pc_flow.specs.Carry.{BackFits, back, test_rows}
+use Rattle.pc_flow.specs.Flow.{Flow}
+use Rattle.pc_flow.specs.Lists.{AnyOf}
 use Rattle.pc_entail.specs.Showing.{question, IsShown}
 use Rattle.pc_lower.specs.Annotation.{rows_at, is_head}
 use Rattle.pc_replay.specs.Flaws.{asked}

@@ -2,10 +2,10 @@
 use Rattle.std.specs.Prelude.{◌≡◌, List, length}
 use Rattle.std.specs.List.{AllByRecursion}
 use Rattle.pc_rows.specs.Linear.{IsOver}
-use Rattle.pc_graph.specs.Flow.{Flow}
+use Rattle.pc_flow.specs.Flow.{Flow}
 use Rattle.pc_lower.specs.Annotation.{rows_at, AreOver}
-use Rattle.pc_cert.specs.declared.certificate.Annotated.{Annotated}
-use Rattle.pc_cert.specs.Certificate.{Certificate}
+use Rattle.pc_certificate.specs.declared.certificate.Annotated.{Annotated}
+use Rattle.pc_certificate.specs.Certificate.{Certificate}
 use Rattle.pc_certify.specs.Lists.{Pairwise}
 use Rattle.pc_certify.specs.Proving.{EdgeDone}
 

@@ -5,9 +5,9 @@ use Rattle.pc_rows.specs.declared.rows.NoMemory.{NoMemory}
 use Rattle.pc_rows.specs.declared.rows.TheConstants.{ROWS}
 use Rattle.pc_rows.specs.Linear.{Linear, State, MeetsAll, MeetsSome, IsOver}
 use Rattle.pc_rows.specs.Modest.{IsModest}
-use Rattle.pc_graph.specs.declared.what.What.TheVariants.{Enter}
-use Rattle.pc_graph.specs.Flow.{Flow}
-use Rattle.pc_graph.specs.Lists.{AnyOf}
+use Rattle.pc_flow.specs.declared.what.What.TheVariants.{Enter}
+use Rattle.pc_flow.specs.Flow.{Flow}
+use Rattle.pc_flow.specs.Lists.{AnyOf}
 use Rattle.pc_entail.specs.Showing.{question, IsShown, AreMetSomewhere, minus_one}
 use Rattle.pc_entail.specs.Reduction.{Thinned}
 use Rattle.pc_lower.specs.declared.fault.CandidateFault.TheVariants.{Past, Full}
@@ -15,8 +15,8 @@ use Rattle.pc_lower.specs.Annotation.{rows_at, no_rows}
 use Rattle.pc_lower.specs.Need.{need}
 use Rattle.pc_lower.specs.Operations.{operations, IsFirstFault}
 use Rattle.pc_lower.specs.Tame.{IsTame}
-use Rattle.pc_cert.specs.declared.certificate.Annotated.{Annotated}
-use Rattle.pc_cert.specs.Certificate.{Certificate, condition_of}
+use Rattle.pc_certificate.specs.declared.certificate.Annotated.{Annotated}
+use Rattle.pc_certificate.specs.Certificate.{Certificate, condition_of}
 use Rattle.pc_certify.specs.Causes.{RowFails, Fails}
 use Rattle.pc_certify.specs.Claims.{IsProved}
 

@@ -11,8 +11,8 @@ ghost use Rattle.pc_certify.specs.Proving.{EdgesAre, AnnotatedIs};
 
 use crate::edge::edge_proofs;
 use crate::lists::push;
-use pc_cert::Annotated;
-use pc_graph::Graph;
+use pc_certificate::Annotated;
+use pc_flow::Graph;
 use pc_lower::Annotation;
 use pc_rows::{NoMemory, Proof, Rows};
 use sqlite_items::Items;

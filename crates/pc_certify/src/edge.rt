@@ -4,8 +4,8 @@ ghost use Rattle.std.specs.Prelude.{◌≡◌, ◌+◌, ◌<◌, ◌≤◌, ◌+
 ghost use Rattle.std.specs.List.{AllByRecursion};
 ghost use Rattle.pc_rows.specs.Joins.{is_covered};
 ghost use Rattle.pc_rows.specs.declared.system.TheConstants.{PREMISES};
-ghost use Rattle.pc_graph.specs.Carry.{back, test_rows};
-ghost use Rattle.pc_graph.specs.declared.what.TheConstants.{TEST_ROWS};
+ghost use Rattle.pc_flow.specs.Carry.{back, test_rows};
+ghost use Rattle.pc_flow.specs.declared.what.TheConstants.{TEST_ROWS};
 ghost use Rattle.pc_lower.specs.Annotation.{rows_at, is_head};
 ghost use Rattle.pc_lower.specs.Laws.{IsCovered};
 ghost use Rattle.pc_replay.specs.Flaws.{asked};
@@ -13,7 +13,7 @@ ghost use Rattle.pc_certify.specs.Proving.{RowsAre, EdgeIs};
 
 use crate::lists::push;
 use crate::row::row_proof;
-use pc_graph::{Edge, Graph, TEST_ROWS, What};
+use pc_flow::{Edge, Graph, TEST_ROWS, What};
 use pc_lower::{Annotation, rows_at};
 use pc_rows::{NoMemory, PREMISES, Proof, ROWS, Rows};
 use sqlite_items::Items;

@@ -3,18 +3,18 @@
 ghost use Rattle.std.specs.Prelude.{◌≡◌, ◌<◌, length, slice_set, IfOk};
 ghost use Rattle.std.specs.List.{AllByRecursion};
 ghost use Rattle.pc_rows.specs.Linear.{IsOver};
-ghost use Rattle.pc_graph.specs.declared.what.What.TheVariants.{Enter};
-ghost use Rattle.pc_graph.specs.Arc.{arc};
-ghost use Rattle.pc_graph.specs.Shape.{IsGraph};
+ghost use Rattle.pc_flow.specs.declared.what.What.TheVariants.{Enter};
+ghost use Rattle.pc_flow.specs.Arc.{arc};
+ghost use Rattle.pc_flow.specs.Shape.{IsGraph};
 ghost use Rattle.pc_lower.specs.Annotation.{rows_at};
 ghost use Rattle.pc_certify.specs.Claims.{IsProved};
 ghost use Rattle.pc_certify.specs.Proving.{EdgeDone, RenewedIs};
 ghost use Rattle.pc_certify.specs.Inferring.{ReducesTo};
 
 use crate::edge::asked_proofs;
-use pc_cert::Annotated;
+use pc_certificate::Annotated;
 use pc_entail::reduce;
-use pc_graph::{Edge, Graph};
+use pc_flow::{Edge, Graph};
 use pc_lower::rows_at;
 use pc_rows::{NoMemory, Proof, Rows};
 use sqlite_items::Items;

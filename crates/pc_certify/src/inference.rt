@@ -2,9 +2,9 @@
 
 ghost use Rattle.std.specs.Prelude.{◌≡◌, ◌≤◌, [], length, IfOk};
 ghost use Rattle.std.specs.List.{AllByRecursion};
-ghost use Rattle.pc_graph.specs.Shape.{IsGraph};
+ghost use Rattle.pc_flow.specs.Shape.{IsGraph};
 ghost use Rattle.pc_lower.specs.Annotation.{NoHeads};
-ghost use Rattle.pc_cert.specs.Certificate.{IsShowable, condition_of};
+ghost use Rattle.pc_certificate.specs.Certificate.{IsShowable, condition_of};
 ghost use Rattle.pc_replay.specs.Accepts.{Accepts};
 ghost use Rattle.pc_replay.specs.Laws.{IsSafe};
 ghost use Rattle.pc_certify.specs.Claims.{IsProved, claim};
@@ -13,9 +13,9 @@ ghost use Rattle.pc_certify.specs.Inferring.{IsExact, AreEntryRows, HasNone, Has
 use crate::annotation::annotated;
 use crate::entry::{entry_edge, reduced};
 use crate::lists::push;
-use pc_cert::{Annotated, Certificate};
+use pc_certificate::{Annotated, Certificate};
 use pc_entail::contradictory;
-use pc_graph::Graph;
+use pc_flow::Graph;
 use pc_lower::{CandidateFault, complete, no_rows, rows_at};
 use pc_rows::NoMemory;
 use sqlite_items::Items;

@@ -12,4 +12,4 @@ mod row;
 
 pub use annotation::prove;
 pub use inference::{CANDIDATES, infer};
-pub use laws::{infer_is_exact, infer_is_exact_on_graphs, straight_is_loop_free};
+pub use laws::infer_is_exact_on_graphs;

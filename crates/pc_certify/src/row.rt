@@ -3,12 +3,12 @@
 ghost use Rattle.std.specs.Prelude.{◌≡◌, ◌+◌, ◌≤◌, ◌++◌, length, true, false};
 ghost use Rattle.pc_rows.specs.Joins.{is_covered};
 ghost use Rattle.pc_rows.specs.declared.system.TheConstants.{PREMISES};
-ghost use Rattle.pc_graph.specs.Carry.{back};
+ghost use Rattle.pc_flow.specs.Carry.{back};
 ghost use Rattle.pc_certify.specs.Proving.{SearchedIs, RowIs};
 
 use crate::cover::covered;
 use pc_entail::{Answer, entails};
-use pc_graph::{Edge, back};
+use pc_flow::{Edge, back};
 use pc_rows::{NoMemory, Past, Proof, Row, Rows};
 use std::alloc::Global;
 

@@ -1,5 +1,5 @@
 -- A variable that no row has: its elimination and the way back over it change nothing.
-use Rattle.std.proofs.Common.{◌≡◌, ℕ, zero, suc, ℤ, pos, negsuc, ◌+ℤ◌, ◌*ℤ◌, neg_ℤ, refl, sym, subst, ◌∙◌, ap, arith, List, [], ◌∷◌, ◌++◌, Bool, true, false, cond, Option, None}
+use Rattle.std.proofs.Common.{◌≡◌, ℕ, zero, suc, ℤ, pos, negsuc, ◌+ℤ◌, ◌*ℤ◌, neg_ℤ, refl, sym, subst, ◌∙◌, ap, arith, List, [], ◌∷◌, ◌++◌, Bool, true, false, cond, Option, None, ◌≤◌, length}
 use Rattle.std.specs.Prelude.{not, ◌||◌}
 use Rattle.std.specs.List.{AllByRecursion}
 use Rattle.std.proofs.lemmas.Int.{ints}
@@ -9,9 +9,11 @@ use Rattle.std.proofs.Math.IntN.{*ℤ-zero}
 use Rattle.pc_rows.specs.Linear.{is_zero}
 use Rattle.pc_rows.specs.Evidence.{Point}
 use Rattle.pc_rows.proofs.Lists.{zero_is}
-use Rattle.pc_elim.specs.Elimination.{Made, Bound, is_positive, factor, combine, flat, with_each, kept_of, combined_of, eliminated, has_variable}
+use Rattle.pc_elim.specs.declared.made.TheConstants.{LIMIT}
+use Rattle.pc_elim.specs.Elimination.{Made, Bound, is_positive, factor, combine, flat, with_each, kept_of, combined_of, eliminated, level}
+use Rattle.pc_elim.specs.Places.{has_variable}
 use Rattle.pc_elim.specs.Placing.{bound_of, turned, next_bound, greater, greatest, placed_by, placed}
-use Rattle.pc_elim.specs.Fits.{AllPairsFit, GreatestFits, ByFits, PlacedFits}
+use Rattle.pc_elim.specs.Fits.{AllPairsFit, EliminationFits, GreatestFits, TakenFits, ByFits, PlacedFits}
 use Rattle.pc_elim.proofs.Making.{made_all}
 use Rattle.pc_elim.proofs.Soundness.{factor-combine}
 
@@ -25,10 +27,6 @@ free_if false has h = cc
 pub all_free : (k : ℕ) (rs : List Made) → has_variable k rs ≡ false → AllFree k rs
 all_free k [] h = tt
 all_free k (r ∷ rs) h = let q = free_if (is_zero (factor r k)) (has_variable k rs) h in (q.0, all_free k rs q.1)
-
-pub from_free : (k : ℕ) (rs : List Made) → AllFree k rs → has_variable k rs ≡ false
-from_free k [] h = refl
-from_free k (r ∷ rs) h = rw h.0 (from_free k rs h.1)
 
 free_signs : (c : ℤ) → is_zero c ≡ true → (is_positive c ≡ false) × (is_positive (neg_ℤ c) ≡ false)
 free_signs (pos zero) h = (refl, refl)
@@ -79,7 +77,7 @@ pub free_placed : (k : ℕ) (rs : List Made) (p : Point) → AllFree k rs → Pl
 free_placed k rs p h =
     let a = free_greatest false k p rs h in
     let b = free_greatest true k p rs h in (
-      record { lower = a.0; upper = b.0; at = subst (λ (o : Option Bound). ByFits p o (greatest true k p None rs)) (sym a.1) (subst (ByFits p None) (sym b.1) tt) },
+      (a.0, subst (ByFits k rs p) (sym a.1) (b.0, subst (TakenFits p) (sym b.1) tt)),
       ap (λ (o : Option Bound). placed_by k p o (greatest true k p None rs)) a.1 ∙ ap (placed_by k p None) b.1,
     )
 
@@ -97,3 +95,10 @@ eliminated_free k v rs h = made_all k (λ r. is_zero (factor r v) ≡ true) (λ 
         let z2 = zero_is (factor n v) b in
         let f : neg_ℤ (factor n k) *ℤ factor p v +ℤ factor p k *ℤ factor n v ≡ pos 0 = rw (z1, z2) (sums_to_zero (neg_ℤ (factor n k)) (factor p k)) in
         ap is_zero (e ∙ f)
+
+pub free_level : (k v : ℕ) (start : List Made) → AllFree v start → AllFree v (level k start)
+free_level zero v start h = h
+free_level (suc k) v start h = eliminated_free k v (level k start) (free_level k v start h)
+
+pub free_fits : (k : ℕ) (rs : List Made) → AllFree k rs → length rs ≤ LIMIT → EliminationFits k rs
+free_fits k rs h most = (free_pairs k rs rs h, let l = ap (length {A = Made}) (free_made k rs h) in omega arith)

@@ -1,5 +1,5 @@
 -- A point that is found meets every row.
-use Rattle.std.proofs.Common.{◌≡◌, ◌≢◌, ℕ, zero, suc, ◌+◌, ◌<◌, ℤ, pos, refl, sym, subst, arith, ◌≤ℤ◌, List, [], ◌∷◌, Bool, true, false, cond, Option, Some, None, length, get_or, replicate, get_or-set_other, length-set}
+use Rattle.std.proofs.Common.{◌≡◌, ◌≢◌, ℕ, zero, suc, ◌<◌, ◌≤◌, ℤ, pos, refl, arith, ◌≤ℤ◌, List, [], ◌∷◌, Bool, true, false, cond, Option, Some, None, length, get_or, replicate, get_or-set_other, length-set}
 use Rattle.std.proofs.lemmas.Grind.{common_steps}
 use Rattle.std.specs.Prelude.{int_lt}
 use Rattle.std.proofs.lemmas.Int.{ints}
@@ -8,11 +8,9 @@ use Rattle.pc_rows.specs.Linear.{dot}
 use Rattle.pc_rows.specs.Evidence.{Point}
 use Rattle.pc_rows.proofs.Algebra.{get_or-scale_list, length-scale_list}
 use Rattle.pc_rows.proofs.Adding.{at_least_one}
-use Rattle.pc_elim.specs.declared.settle.Found.{Found}
-use Rattle.pc_elim.specs.declared.settle.Found.TheVariants.{Shown, At}
-use Rattle.pc_elim.specs.Elimination.{Made, Bound, eliminated}
+use Rattle.pc_elim.specs.Elimination.{Made, Bound, level}
 use Rattle.pc_elim.specs.Placing.{greatest, placed_at, placed_by, placed}
-use Rattle.pc_elim.specs.Settling.{origin, is_contradiction, ended, back_over, settle}
+use Rattle.pc_elim.specs.Settling.{origin, is_contradiction, contradiction_of, taken_back}
 use Rattle.pc_elim.proofs.Bounds.{greatest_is}
 use Rattle.pc_elim.proofs.Placing.{IsMetAt, AllMeet, placed_meets}
 
@@ -27,15 +25,15 @@ no_contradiction_meets w r h = let e = dot-origin r.row.coefficients w in let f 
     not_below : (c : ℤ) → int_lt c (pos 0) ≡ false → pos 0 ≤ℤ c
     not_below c h = grind (arith, ints)
 
-ended_if : (w : ℕ) (t : Bool) (r : Made) (rs : List Made) (p : Point) → is_contradiction r ≡ t → cond t (Shown r.multipliers) (ended w rs) ≡ At p → (is_contradiction r ≡ false) × (ended w rs ≡ At p)
-ended_if w true r rs p e h = cc
-ended_if w false r rs p e h = (e, h)
+none_if : (t : Bool) (r : Made) (rs : List Made) → is_contradiction r ≡ t → cond t (Some r.multipliers) (contradiction_of rs) ≡ None → (is_contradiction r ≡ false) × (contradiction_of rs ≡ None)
+none_if true r rs e h = cc
+none_if false r rs e h = (e, h)
 
-ended_at : (w : ℕ) (rs : List Made) (p : Point) → ended w rs ≡ At p → (p ≡ origin w) × AllMeet (origin w) rs
-ended_at w [] p h = (cc, tt)
-ended_at w (r ∷ rs) p h =
-    let q = ended_if w (is_contradiction r) r rs p refl h in
-    let m = ended_at w rs p q.1 in (m.0, (no_contradiction_meets w r q.0, m.1))
+pub origin_meets : (w : ℕ) (rs : List Made) → contradiction_of rs ≡ None → AllMeet (origin w) rs
+origin_meets w [] h = tt
+origin_meets w (r ∷ rs) h =
+    let q = none_if (is_contradiction r) r rs refl h in
+    (no_contradiction_meets w r q.0, origin_meets w rs q.1)
 
 -- a point over w variables at which those before k are 0
 pub record IsFrom (w k : ℕ) (p : Point) : Type 0 where
@@ -48,7 +46,7 @@ get_or-zeros zero j = refl
 get_or-zeros (suc w) zero = refl
 get_or-zeros (suc w) (suc j) = get_or-zeros w j
 
-origin_from : (w k : ℕ) → IsFrom w k (origin w)
+pub origin_from : (w k : ℕ) → IsFrom w k (origin w)
 origin_from w k = record { long = grind (arith, common_steps); free = λ j _. get_or-zeros w j; positive = omega (arith, ints) }
 
 placed_at_from : (w k : ℕ) (p : Point) (t : Bool) (b : Bound) → k < w → pos 1 ≤ℤ b.weight → IsFrom w (suc k) p → IsFrom w k (placed_at t k p b)
@@ -66,15 +64,10 @@ placed_from_by w k rs p None None e g lt h = record { long = h.long; free = λ j
 pub placed_from : (w k : ℕ) (rs : List Made) (p : Point) → k < w → IsFrom w (suc k) p → IsFrom w k (placed k rs p)
 placed_from w k rs p lt h = placed_from_by w k rs p (greatest false k p None rs) (greatest true k p None rs) refl refl lt h
 
-one_back : (w k : ℕ) (rs : List Made) (f : Found) (p : Point) → k < w → ((q : Point) → f ≡ At q → IsFrom w (suc k) q × AllMeet q (eliminated k rs)) → back_over k rs f ≡ At p → IsFrom w k p × AllMeet p rs
-one_back w k rs (Shown by) p lt ih h = cc
-one_back w k rs (At q) p lt ih h =
-    let m = ih q refl in
-    let e : placed k rs q ≡ p = cc in
-    subst (λ (x : Point). IsFrom w k x × AllMeet x rs) e
-    (placed_from w k rs q lt m.0, placed_meets k q (rw m.0.long lt) (m.0.free k (omega arith)) rs m.1)
-
-pub settled : (w n k : ℕ) (rs : List Made) (p : Point) → k + n ≡ w → settle w n k rs ≡ At p → IsFrom w k p × AllMeet p rs
-settled w zero k rs p e h = let q = ended_at w rs p h in subst (λ (x : Point). IsFrom w k x × AllMeet x rs) (sym q.0) (origin_from w k, q.1)
-settled w (suc n) k rs p e h = one_back w k rs (settle w n (suc k) (eliminated k rs)) p (omega arith)
-    (λ q g. settled w n (suc k) (eliminated k rs) q (omega arith) g) h
+-- a point that meets the rows without the first k variables is taken back to one that meets the rows at the start
+pub back_meets : (w k : ℕ) (start : List Made) (p : Point) → k ≤ w → IsFrom w k p → AllMeet p (level k start) → IsFrom w zero (taken_back k start p) × AllMeet (taken_back k start p) start
+back_meets w zero start p le h m = (h, m)
+back_meets w (suc k) start p le h m =
+    let lt : k < w = omega arith in
+    back_meets w k start (placed k (level k start) p) (omega arith) (placed_from w k (level k start) p lt h)
+    (placed_meets k p (rw h.long lt) (h.free k (omega arith)) (level k start) m)

@@ -34,9 +34,6 @@ cross p (pos a) q b r (pos c) x y z h g =
 pub positive_is : (z : ℤ) → is_positive z ≡ true → pos 1 ≤ℤ z
 positive_is z h = grind (arith, ints)
 
-pub not_positive_is : (z : ℤ) → is_positive z ≡ false → z ≤ℤ pos 0
-not_positive_is z h = grind (arith, ints)
-
 pub below_is : (x y : ℤ) → int_lt x y ≡ true → x ≤ℤ y
 below_is x y h = grind (arith, ints)
 

@@ -17,3 +17,5 @@ pub mod Contradicting
 pub mod Proving
 pub mod Totals
 pub mod Deciding
+pub mod Answering
+pub mod Worked

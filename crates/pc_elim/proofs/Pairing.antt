@@ -3,12 +3,14 @@ use Rattle.std.proofs.Common.{◌≡◌, ℕ, zero, suc, ◌+◌, ◌*◌, ◌^�
 use Rattle.std.specs.Prelude.{count_by}
 use Rattle.std.specs.List.{AllByRecursion}
 use Rattle.std.proofs.lemmas.List.{drop_more, drop_all, get_or_default, append-nil}
-use Rattle.pc_rows.proofs.Joining.{each_join}
+use Rattle.pc_rows.proofs.Joining.{each_join, each_left, each_right}
 use Rattle.pc_elim.specs.declared.made.Fault.{Fault}
 use Rattle.pc_elim.specs.declared.made.Fault.TheVariants.{Past, Full, NoMemory}
 use Rattle.pc_elim.specs.declared.made.TheConstants.{LIMIT}
-use Rattle.pc_elim.specs.Elimination.{Made, combine, flat, pair_of, with_each, kept_of, combined_of, eliminated, place_of, places_below, combined_at}
-use Rattle.pc_elim.specs.Fits.{CombineFits, PairFits, EliminationFits, Adds, CountIs, SettleIs}
+use Rattle.pc_elim.specs.Elimination.{Made, combine, flat, pair_of, with_each, kept_of, combined_of, eliminated}
+use Rattle.pc_elim.specs.Places.{place_of, places_below, combined_at}
+use Rattle.pc_elim.specs.Fits.{CombineFits, PairFits, AllPairsFit, EliminationFits}
+use Rattle.pc_elim.specs.Steps.{Adds, CountIs, FaultIs}
 use Rattle.pc_elim.proofs.Adding.{all_at}
 use Rattle.pc_elim.proofs.Counting.{one_if, is_free, is_over, is_under, count_more, length-eliminated, eliminated_room}
 
@@ -39,33 +41,25 @@ module _ (k : ℕ) (rows : List Made) (free over below : ℕ) (most : length row
   count_small = let e = count_is in let r = eliminated_room k rows 13122 (omega arith) (omega arith) in omega arith
 
 -- no more rows are made than there is room for
-pub made_most : (k count : ℕ) (rows out kept new : List Made) → CountIs k rows (Ok count) → out ≡ [] → kept ≡ out ++ flat (kept_of k) rows → new ≡ kept ++ flat (combined_of k rows) rows → length new ≤ LIMIT
+pub made_most : (k count : ℕ) (rows out kept new : List Made) → CountIs k rows (Ok count) → out ≡ [] → kept ≡ out ++ flat (kept_of k) rows → AllByRecursion (AllPairsFit k rows) rows × (new ≡ kept ++ flat (combined_of k rows) rows) →
+    (EliminationFits k rows × (new ≡ eliminated k rows)) × length new ≤ LIMIT
 made_most k count rows out kept new room none first more =
-    let e = more ∙ ap (λ (z : List Made). z ++ flat (combined_of k rows) rows) (first ∙ ap (λ (z : List Made). z ++ flat (kept_of k) rows) none) in
+    let e = more.1 ∙ ap (λ (z : List Made). z ++ flat (combined_of k rows) rows) (first ∙ ap (λ (z : List Made). z ++ flat (kept_of k) rows) none) in
     let l = ap (length {A = Made}) e in
     let c = room.0 in
     let m = room.1 in
-    omega arith
+    (((more.0, omega arith), e), omega arith)
 
-pub count_fails : (k : ℕ) (rows : List Made) {A : Type 0} (v : A) (e : Fault) → CountIs k rows (Err e) → SettleIs v (EliminationFits k rows) (Err e)
-count_fails k rows v Full h = λ fits. let f = fits.1 in omega arith
-count_fails k rows v Past h = absurd h
-count_fails k rows v NoMemory h = tt
-
-pub room_fails : {A : Type 0} (v : A) (F : Type 0) (e : Fault) → SettleIs {A = List Made} [] (Unit {0}) (Err e) → SettleIs v F (Err e)
-room_fails v F Past h = absurd (h tt)
-room_fails v F Full h = absurd (h tt)
-room_fails v F NoMemory h = tt
+pub count_fails : (k : ℕ) (rows : List Made) (e : Fault) → CountIs k rows (Err e) → FaultIs (EliminationFits k rows) e
+count_fails k rows Full h = λ fits. let f = fits.1 in omega arith
+count_fails k rows Past h = absurd h
+count_fails k rows NoMemory h = tt
 
 -- rows that are kept always fit
-pub keep_fails : (items old new rows : List Made) {A : Type 0} (v : A) (F : Type 0) (e : Fault) → Adds items (AllByRecursion (λ r. Unit {0}) rows) old (Err e) new → SettleIs v F (Err e)
-keep_fails items old new rows v F Past h = absurd (h (units rows))
-  where
-    units : (rows : List Made) → AllByRecursion (λ r. Unit {0}) rows
-    units [] = tt
-    units (r ∷ rows) = (tt, units rows)
-keep_fails items old new rows v F Full h = absurd h
-keep_fails items old new rows v F NoMemory h = tt
+pub keep_fails : (items old new : List Made) (F : Type 0) (e : Fault) → Adds items (Unit {0}) old (Err e) new → FaultIs F e
+keep_fails items old new F Past h = absurd (h tt)
+keep_fails items old new F Full h = absurd h
+keep_fails items old new F NoMemory h = tt
 
 -- what stands at the places
 
@@ -112,6 +106,21 @@ module _ (k : ℕ) (p : Made) (all : List Made) where
       one true = ap (λ (z : Made). combine k p z ∷ []) (drop_front all i r p rs e).1
       one false = refl
 
+  -- the combinations with the rows at these places
+  abbrev pub AllFitAt : List ℕ → Type 0
+  AllFitAt places = AllByRecursion (λ i. CombineFits k p (get_or all i p)) places
+
+  fit_places : (i : ℕ) (rs : List Made) → drop i all ≡ rs → AllFitAt (places_below k i rs) → AllByRecursion (PairFits k p) rs
+  fit_places i [] e h = tt
+  fit_places i (r ∷ rs) e h = (
+    one (is_under k r) refl (each_left (λ i. CombineFits k p (get_or all i p)) (place_of k i r) (places_below k (i + 1) rs) h),
+    fit_places (i + 1) rs (drop_rest all i r rs e) (each_right (λ i. CombineFits k p (get_or all i p)) (place_of k i r) (places_below k (i + 1) rs) h),
+  )
+    where
+      one : (t : Bool) → is_under k r ≡ t → AllFitAt (cond t (i ∷ []) []) → PairFits k p r
+      one true u f = λ _. subst (CombineFits k p) (drop_front all i r p rs e).1 f.0
+      one false u f = λ v. cc
+
   module _ (below : List ℕ) (are : below ≡ places_below k 0 all) where
     pub place_at : (j : ℕ) → j < length below → IsPlace (get_or below j 0)
     place_at j lt = at below j lt (subst (AllByRecursion IsPlace) (sym are) (places_are 0 all refl))
@@ -124,12 +133,15 @@ module _ (k : ℕ) (p : Made) (all : List Made) where
     pub place_within : (j : ℕ) → j < length below → get_or below j 0 < length all
     place_within j lt = (place_at j lt).0
 
-    pub pairs_done : (out old : List Made) (j : ℕ) → length below ≤ j → out ++ combined_at k p all (drop j below) ≡ old ++ combined_at k p all below → out ≡ old ++ with_each k p all
-    pairs_done out old j past h =
-        sym (append-nil out)
-        ∙ ap (λ (z : List ℕ). out ++ combined_at k p all z) (sym (drop_all j below past))
-        ∙ h
-        ∙ ap (λ (z : List Made). old ++ z) (ap (combined_at k p all) are ∙ combined_places 0 all refl)
+    pub pairs_done : (out old : List Made) (j : ℕ) → length below ≤ j → (AllFitAt (drop j below) → AllFitAt below) → out ++ combined_at k p all (drop j below) ≡ old ++ combined_at k p all below →
+        AllByRecursion (PairFits k p) all × (out ≡ old ++ with_each k p all)
+    pairs_done out old j past fits h = (
+      fit_places 0 all refl (subst AllFitAt are (fits (subst AllFitAt (sym (drop_all j below past)) tt))),
+      sym (append-nil out)
+          ∙ ap (λ (z : List ℕ). out ++ combined_at k p all z) (sym (drop_all j below past))
+          ∙ h
+          ∙ ap (λ (z : List Made). old ++ z) (ap (combined_at k p all) are ∙ combined_places 0 all refl),
+    )
 
     -- one place more
     pub pairs_on : (out old new : List Made) (j : ℕ) (n : Made) → j < length below → n ≡ get_or all (get_or below j 0) n → out ++ combined_at k p all (drop j below) ≡ old ++ combined_at k p all below →
@@ -143,6 +155,11 @@ module _ (k : ℕ) (p : Made) (all : List Made) where
         ∙ ap (λ (z : Made). out ++ combine k p z ∷ combined_at k p all (drop (j + 1) below)) (sym named)
         ∙ ap (λ (z : List ℕ). out ++ combined_at k p all z) (sym opened)
         ∙ h
+
+    pub pairs_fit_on : (j : ℕ) (n : Made) → j < length below → n ≡ get_or all (get_or below j 0) n → (AllFitAt (drop j below) → AllFitAt below) → CombineFits k p n → AllFitAt (drop (j + 1) below) → AllFitAt below
+    pairs_fit_on j n lt at fits one rest =
+        let named : get_or all (get_or below j 0) p ≡ n = get_or_default all (get_or below j 0) p n (place_within j lt) ∙ sym at in
+        fits (subst AllFitAt (sym (drop_more below j 0 lt)) (subst (CombineFits k p) (sym named) one, rest))
 
     -- a pair that does not fit
     pub pair_fails : (out old new last : List Made) (j : ℕ) (n : Made) (e : Fault) → j < length below → n ≡ get_or all (get_or below j 0) n → Adds (combine k p n ∷ []) (CombineFits k p n) out (Err e) new →

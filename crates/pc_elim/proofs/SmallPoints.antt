@@ -10,7 +10,7 @@ use Rattle.pc_rows.specs.Points.{SumsFit, numerator, NumeratorFits}
 use Rattle.pc_rows.proofs.Bounding.{product_within, sum_within, opposite_within, within_in_range, all_in_range, more_within, scale_within, set_within}
 use Rattle.pc_elim.specs.Elimination.{Made, Bound, is_positive, factor}
 use Rattle.pc_elim.specs.Placing.{is_below, greater, bound_of, turned, next_bound, greatest, placed_at, placed_by, placed}
-use Rattle.pc_elim.specs.Fits.{GreaterFits, GreatestFits, AtFits, ByFits, PlacedFits}
+use Rattle.pc_elim.specs.Fits.{GreaterFits, GreatestFits, AtFits, TakenFits, ByFits, PlacedFits}
 use Rattle.pc_elim.proofs.SmallRows.{MadeWithin, factor_within}
 
 -- sums
@@ -103,10 +103,13 @@ module _ (m s q : ℕ) (k : ℕ) (p : Point) (le : 64 * (m * s) ≤ q) (lt : q <
     denominator = omega (arith, product_within m s b.weight p.denominator h.weight w.denominator);
   }
 
-  by_fits : (o u : Option Bound) → BestWithin q m o → BestWithin q m u → ByFits p o u
-  by_fits (Some b) u h g = at_fits b h
-  by_fits None (Some b) h g = at_fits b g
-  by_fits None None h g = tt
+  taken_fits : (o : Option Bound) → BestWithin q m o → TakenFits p o
+  taken_fits None h = tt
+  taken_fits (Some b) h = at_fits b h
+
+  by_fits : (rs : List Made) (o : Option Bound) → BestWithin q m o → GreatestFits true k p None rs × BestWithin q m (greatest true k p None rs) → ByFits k rs p o
+  by_fits rs (Some b) h g = at_fits b h
+  by_fits rs None h g = (g.0, taken_fits (greatest true k p None rs) g.1)
 
   by_place : (o u : Option Bound) → s ≤ q → BestWithin q m o → BestWithin q m u → PointWithin q (placed_by k p o u)
   by_place (Some b) u sq h g = at_place false b h
@@ -117,6 +120,6 @@ module _ (m s q : ℕ) (k : ℕ) (p : Point) (le : 64 * (m * s) ≤ q) (lt : q <
   placed_fits rs sq h =
       let a = greatest_fits false None rs tt h in
       let b = greatest_fits true None rs tt h in (
-        record { lower = a.0; upper = b.0; at = by_fits (greatest false k p None rs) (greatest true k p None rs) a.1 b.1 },
+        (a.0, by_fits rs (greatest false k p None rs) a.1 b),
         by_place (greatest false k p None rs) (greatest true k p None rs) sq a.1 b.1,
       )

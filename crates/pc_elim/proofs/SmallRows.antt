@@ -75,7 +75,7 @@ pub all_pairs_fit : (m k : ℕ) (all rs : List Made) → m * m + m * m < 2 ^ 127
 all_pairs_fit m k all [] lt h g = tt
 all_pairs_fit m k all (r ∷ rs) lt h g = (λ _. pairs_fit m k r all lt g.0 h, all_pairs_fit m k all rs lt h g.1)
 
-made_more : (m n : ℕ) (r : Made) → m ≤ n → MadeWithin m r → MadeWithin n r
+pub made_more : (m n : ℕ) (r : Made) → m ≤ n → MadeWithin m r → MadeWithin n r
 made_more m n r le h = record { row = row_more m n r.row le h.row; multipliers = more_within m n r.multipliers le h.multipliers }
 
 pub eliminated_within : (m n k : ℕ) (rs : List Made) → m ≤ n → m * m + m * m ≤ n → AllByRecursion (MadeWithin m) rs → AllByRecursion (MadeWithin n) (eliminated k rs)

@@ -1,5 +1,5 @@
 -- Multipliers that are found make a contradiction of the rows at the start.
-use Rattle.std.proofs.Common.{◌≡◌, ℕ, zero, suc, ◌+◌, ◌<◌, ℤ, pos, negsuc, ◌+ℤ◌, ◌*ℤ◌, neg_ℤ, refl, sym, subst, ◌∙◌, ap, arith, ◌≤ℤ◌, List, [], ◌∷◌, Bool, true, false, cond, length, get_or, ◌⊎◌, inl, inr}
+use Rattle.std.proofs.Common.{◌≡◌, ℕ, zero, suc, ◌<◌, ℤ, pos, negsuc, ◌+ℤ◌, ◌*ℤ◌, neg_ℤ, refl, sym, subst, ◌∙◌, ap, arith, ◌≤ℤ◌, List, [], ◌∷◌, Bool, true, false, cond, Some, length, get_or, ◌⊎◌, inl, inr}
 use Rattle.std.specs.Prelude.{int_lt}
 use Rattle.std.specs.List.{AllByRecursion, list_all}
 use Rattle.std.proofs.lemmas.Int.{ints}
@@ -10,10 +10,8 @@ use Rattle.pc_rows.specs.Shows.{nothing_row}
 use Rattle.pc_rows.proofs.Ring.{mul_neg, mul_comm, product_not_negative}
 use Rattle.pc_rows.proofs.Lists.{zero_is}
 use Rattle.pc_rows.proofs.Algebra.{row_crossed, row_scale_sum, row_scales, row_scale_scale, nothing_left, nothing_right, scaled_nothing, get_or-add_lists, get_or-scale_list, length-add_lists, length-scale_list}
-use Rattle.pc_elim.specs.declared.settle.Found.{Found}
-use Rattle.pc_elim.specs.declared.settle.Found.TheVariants.{Shown, At}
-use Rattle.pc_elim.specs.Elimination.{Made, is_positive, factor, combine, eliminated, combination, Carries}
-use Rattle.pc_elim.specs.Settling.{is_contradiction, ended, back_over, settle}
+use Rattle.pc_elim.specs.Elimination.{Made, is_positive, factor, combine, eliminated, level, combination, Carries}
+use Rattle.pc_elim.specs.Settling.{is_contradiction, contradiction_of}
 use Rattle.pc_elim.proofs.Fractions.{positive_is}
 use Rattle.pc_elim.proofs.Making.{made_all}
 
@@ -124,12 +122,12 @@ no_variable (c ∷ cs) h =
     let f = no_variable cs (λ j lt. h (suc j) (omega arith)) in
     and_from (is_zero c) (list_all is_zero cs) e f
 
-ended_if : (w : ℕ) (ms : List ℤ) (t : Bool) (r : Made) (rs : List Made) → is_contradiction r ≡ t → cond t (Shown r.multipliers) (ended w rs) ≡ Shown ms → ((is_contradiction r ≡ true) × (r.multipliers ≡ ms)) ⊎ (ended w rs ≡ Shown ms)
-ended_if w ms true r rs e h = inl (e, cc)
-ended_if w ms false r rs e h = inr h
+some_if : (ms : List ℤ) (t : Bool) (r : Made) (rs : List Made) → is_contradiction r ≡ t → cond t (Some r.multipliers) (contradiction_of rs) ≡ Some ms → ((is_contradiction r ≡ true) × (r.multipliers ≡ ms)) ⊎ (contradiction_of rs ≡ Some ms)
+some_if ms true r rs e h = inl (e, cc)
+some_if ms false r rs e h = inr h
 
-good_contradicts : (base : List Linear) (w : ℕ) (r : Made) (ms : List ℤ) → Good base w w r → is_contradiction r ≡ true → r.multipliers ≡ ms → Contradicts base ms
-good_contradicts base w r ms g b e = subst (Contradicts base) e record {
+good_contradicts : (base : List Linear) (w : ℕ) (r : Made) → Good base w w r → is_contradiction r ≡ true → Contradicts base r.multipliers
+good_contradicts base w r g b = record {
   not_negative = g.0.not_negative;
   left = subst (λ (z : Linear). list_all is_zero z.coefficients ≡ true) g.0.made (no_variable r.row.coefficients (λ j lt. g.1.gone j (subst (λ (n : ℕ). j < n) g.1.long lt)));
   below = subst (λ (z : Linear). z.constant ≤ℤ negsuc 0) g.0.made (broken r.row.constant b);
@@ -138,19 +136,34 @@ good_contradicts base w r ms g b e = subst (Contradicts base) e record {
     broken : (c : ℤ) → int_lt c (pos 0) ≡ true → c ≤ℤ negsuc 0
     broken c h = grind (arith, ints)
 
-ended_shown : (base : List Linear) (w : ℕ) (ms : List ℤ) (rs : List Made) → AllByRecursion (Good base w w) rs → ended w rs ≡ Shown ms → Contradicts base ms
-ended_shown base w ms [] g h = cc
-ended_shown base w ms (r ∷ rs) g h = elim (ended_if w ms (is_contradiction r) r rs refl h) [
-  | inl a ↦ good_contradicts base w r ms g.0 a.0 a.1
-  | inr b ↦ ended_shown base w ms rs g.1 b
+-- what holds of the multipliers of every row holds of those of the first contradiction
+pub first_has : (P : Made → Type 0) (Q : List ℤ → Type 0) (of : (r : Made) → P r → is_contradiction r ≡ true → Q r.multipliers) (ms : List ℤ) (rs : List Made) → AllByRecursion P rs → contradiction_of rs ≡ Some ms → Q ms
+first_has P Q of ms [] g h = cc
+first_has P Q of ms (r ∷ rs) g h = elim (some_if ms (is_contradiction r) r rs refl h) [
+  | inl a ↦ subst Q a.1 (of r g.0 a.0)
+  | inr b ↦ first_has P Q of ms rs g.1 b
 ]
 
-back_shown : (k : ℕ) (rs : List Made) (ms : List ℤ) (f : Found) → back_over k rs f ≡ Shown ms → f ≡ Shown ms
-back_shown k rs ms (Shown by) h = h
-back_shown k rs ms (At p) h = cc
+level_good : (base : List Linear) (w k : ℕ) (start : List Made) → AllByRecursion (Good base w zero) start → AllByRecursion (Good base w k) (level k start)
+level_good base w zero start h = h
+level_good base w (suc k) start h = eliminated_good base w k (level k start) (level_good base w k start h)
 
-pub shown_contradicts : (base : List Linear) (w n k : ℕ) (rs : List Made) (ms : List ℤ) → k + n ≡ w → AllByRecursion (Good base w k) rs → settle w n k rs ≡ Shown ms → Contradicts base ms
-shown_contradicts base w zero k rs ms e g h = let f : k ≡ w = omega arith in ended_shown base w ms rs (subst (λ (z : ℕ). AllByRecursion (Good base w z) rs) f g) h
-shown_contradicts base w (suc n) k rs ms e g h =
-    shown_contradicts base w n (suc k) (eliminated k rs) ms (omega arith) (eliminated_good base w k rs g)
-    (back_shown k rs ms (settle w n (suc k) (eliminated k rs)) h)
+pub last_contradicts : (base : List Linear) (w : ℕ) (start : List Made) (ms : List ℤ) → AllByRecursion (Good base w zero) start → contradiction_of (level w start) ≡ Some ms → Contradicts base ms
+last_contradicts base w start ms g h = first_has (Good base w w) (Contradicts base) (good_contradicts base w) ms (level w start) (level_good base w w start g) h
+
+-- a row has as many multipliers as there are rows at the start
+abbrev pub IsFull : ℕ → Made → Type 0
+IsFull parts r = length r.multipliers ≡ parts
+
+combine_full : (parts k : ℕ) (p n : Made) → IsFull parts p → IsFull parts n → IsFull parts (combine k p n)
+combine_full parts k p n a b =
+    let e = length-scale_list (neg_ℤ (factor n k)) p.multipliers in
+    let f = length-scale_list (factor p k) n.multipliers in
+    length-add_lists (scale_list (neg_ℤ (factor n k)) p.multipliers) (scale_list (factor p k) n.multipliers) (e ∙ a ∙ sym (f ∙ b)) ∙ e ∙ a
+
+level_full : (parts k : ℕ) (start : List Made) → AllByRecursion (IsFull parts) start → AllByRecursion (IsFull parts) (level k start)
+level_full parts zero start h = h
+level_full parts (suc k) start h = made_all k (IsFull parts) (IsFull parts) (λ r g _. g) (λ p n a b _ _. combine_full parts k p n a b) (level k start) (level_full parts k start h)
+
+pub last_full : (parts w : ℕ) (start : List Made) (ms : List ℤ) → AllByRecursion (IsFull parts) start → contradiction_of (level w start) ≡ Some ms → length ms ≡ parts
+last_full parts w start ms g h = first_has (IsFull parts) (λ ms. length ms ≡ parts) (λ r x _. x) ms (level w start) (level_full parts w start g) h

@@ -1,21 +1,21 @@
 -- Modest rows are settled with all numbers in range and with room for all rows.
-use Rattle.std.proofs.Common.{◌≡◌, ℕ, zero, suc, ◌+◌, ◌*◌, ◌^◌, ◌≤◌, ◌<◌, pos, refl, sym, subst, ap, arith, List, [], ◌∷◌, Bool, true, false, cond, length, replicate}
+use Rattle.std.proofs.Common.{◌≡◌, ℕ, zero, suc, ◌+◌, ◌*◌, ◌^◌, ◌≤◌, ◌<◌, ℤ, pos, refl, sym, subst, arith, List, [], ◌∷◌, Bool, true, false, Some, length, replicate}
 use Rattle.std.specs.List.{AllByRecursion}
 use Rattle.std.proofs.lemmas.Int.{ints}
 use Rattle.pc_rows.specs.Bounds.{AreWithin}
 use Rattle.pc_rows.specs.Evidence.{Point}
-use Rattle.pc_rows.proofs.Bounding.{more_within}
-use Rattle.pc_elim.specs.declared.settle.Found.{Found}
-use Rattle.pc_elim.specs.declared.settle.Found.TheVariants.{Shown, At}
 use Rattle.pc_elim.specs.declared.made.TheConstants.{LIMIT}
-use Rattle.pc_elim.specs.Elimination.{Made, eliminated, has_variable}
-use Rattle.pc_elim.specs.Settling.{is_contradiction, ended, back_over, settle}
-use Rattle.pc_elim.specs.Fits.{BackFits, Calm}
-use Rattle.pc_elim.proofs.Completeness.{settled}
+use Rattle.pc_elim.specs.Elimination.{Made, level}
+use Rattle.pc_elim.specs.Places.{has_variable}
+use Rattle.pc_elim.specs.Placing.{placed}
+use Rattle.pc_elim.specs.Settling.{origin, contradiction_of}
+use Rattle.pc_elim.specs.Fits.{LevelFits, PlacedFits, BackFits}
+use Rattle.pc_elim.proofs.Completeness.{IsFrom, origin_from, placed_from}
+use Rattle.pc_elim.proofs.Soundness.{first_has}
 use Rattle.pc_elim.proofs.Counting.{eliminated_room, one_if}
-use Rattle.pc_elim.proofs.SmallRows.{MadeWithin, all_pairs_fit, eliminated_within}
+use Rattle.pc_elim.proofs.SmallRows.{MadeWithin, made_more, all_pairs_fit, eliminated_within}
 use Rattle.pc_elim.proofs.SmallPoints.{PointWithin, placed_fits}
-use Rattle.pc_elim.proofs.Absent.{AllFree, all_free, from_free, free_made, free_pairs, free_placed, eliminated_free}
+use Rattle.pc_elim.proofs.Absent.{all_free, free_made, free_placed, free_level, free_fits}
 
 -- the numbers of each stage, by how many variables that occur may still come
 abbrev pub entry : ℕ → ℕ
@@ -65,88 +65,110 @@ room_limit (suc zero) = omega arith
 room_limit (suc (suc zero)) = omega arith
 room_limit (suc (suc (suc l))) = omega arith
 
-one_size : (l : ℕ) → 1 ≤ size l
-one_size zero = omega arith
-one_size (suc zero) = omega arith
-one_size (suc (suc zero)) = omega arith
-one_size (suc (suc (suc l))) = omega arith
-
 abbrev pub remaining : ℕ → ℕ → List Made → ℕ
 remaining zero k rs = 0
 remaining (suc n) k rs = one_if (has_variable k rs) + remaining n (suc k) rs
-
-once : (k v : ℕ) (rs : List Made) (t u : Bool) → has_variable v rs ≡ t → has_variable v (eliminated k rs) ≡ u → one_if u ≤ one_if t
-once k v rs true true e f = omega arith
-once k v rs true false e f = omega arith
-once k v rs false true e f = absurd (clash (has_variable v (eliminated k rs)) f (from_free v (eliminated k rs) (eliminated_free k v rs (all_free v rs e))))
-  where
-    clash : (t : Bool) → t ≡ true → t ≡ false → ⊥
-    clash t e f = cc
-once k v rs false false e f = omega arith
-
-remaining_less : (k n v : ℕ) (rs : List Made) → remaining n v (eliminated k rs) ≤ remaining n v rs
-remaining_less k zero v rs = omega arith
-remaining_less k (suc n) v rs =
-    let a = once k v rs (has_variable v rs) (has_variable v (eliminated k rs)) refl refl in
-    let b = remaining_less k n (suc v) rs in omega arith
-
-abbrev pub OutWithin : ℕ → Found → Type 0
-OutWithin s (Shown by) = AreWithin (2 ^ 87) by
-OutWithin s (At p) = PointWithin s p
 
 zeros_within : (s w : ℕ) → AreWithin s (replicate w (pos 0))
 zeros_within s zero = tt
 zeros_within s (suc w) = (omega (arith, ints), zeros_within s w)
 
-entry_most : (l : ℕ) → entry l ≤ 2 ^ 87
-entry_most zero = omega arith
-entry_most (suc zero) = omega arith
-entry_most (suc (suc zero)) = omega arith
-entry_most (suc (suc (suc l))) = omega arith
+-- the rows without the first k variables, where so many of the later ones occur
+record Stage (k l : ℕ) (start : List Made) : Type 0 where
+  most : l ≤ 3
+  fits : LevelFits k start
+  within : AllByRecursion (MadeWithin (entry l)) (level k start)
+  few : length (level k start) ≤ room l
 
-ended_if : (s w : ℕ) (t : Bool) (r : Made) (rs : List Made) → AreWithin (2 ^ 87) r.multipliers → OutWithin s (ended w rs) → OutWithin s (cond t (Shown r.multipliers) (ended w rs))
-ended_if s w true r rs g h = g
-ended_if s w false r rs g h = h
-
-ended_within : (s w l : ℕ) (rs : List Made) → 1 ≤ s → AllByRecursion (MadeWithin (entry l)) rs → OutWithin s (ended w rs)
-ended_within s w l [] h g = record { numerators = zeros_within s w; denominator = omega (arith, ints) }
-ended_within s w l (r ∷ rs) h g = ended_if s w (is_contradiction r) r rs (more_within (entry l) (2 ^ 87) r.multipliers (entry_most l) g.0.multipliers) (ended_within s w l rs h g.1)
-
-back_free : (s k : ℕ) (rs : List Made) (f : Found) → AllFree k rs → OutWithin s f → BackFits k rs f × OutWithin s (back_over k rs f)
-back_free s k rs (Shown by) h g = (tt, g)
-back_free s k rs (At p) h g = let q = free_placed k rs p h in (q.0, subst (PointWithin s) (sym q.1) g)
-
-back_used : (w k l : ℕ) (rs : List Made) (f : Found) → l < 3 → AllByRecursion (MadeWithin (entry (suc l))) rs → ((p : Point) → f ≡ At p → length p.numerators ≤ 63) → OutWithin (size l) f → BackFits k rs f × OutWithin (size (suc l)) (back_over k rs f)
-back_used w k l rs (Shown by) lt h long g = (tt, g)
-back_used w k l rs (At p) lt h long g =
-    let s = step l lt in
-    placed_fits (entry (suc l)) (size l) (size (suc l)) k p s.sizes s.size_fits s.cross_fits (long p refl) g rs s.up h
-
-calm_if : (w n k l : ℕ) (rs : List Made) (t : Bool) → has_variable k rs ≡ t → k + suc n ≡ w → w ≤ 63 →
-    ((l : ℕ) (zs : List Made) → l ≤ 3 → remaining n (suc k) zs ≤ l → AllByRecursion (MadeWithin (entry l)) zs → length zs ≤ room l → Calm w n (suc k) zs × OutWithin (size l) (settle w n (suc k) zs)) →
-    l ≤ 3 → one_if t + remaining n (suc k) rs ≤ l → AllByRecursion (MadeWithin (entry l)) rs → length rs ≤ room l → Calm w (suc n) k rs × OutWithin (size l) (settle w (suc n) k rs)
-calm_if w n k l rs false o e long rec le occ h many =
-    let free = all_free k rs o in
-    let same = free_made k rs free in
-    let ih = rec l rs le (omega arith) h many in
-    let ih2 = subst (λ (z : List Made). Calm w n (suc k) z × OutWithin (size l) (settle w n (suc k) z)) (sym same) ih in
-    let b = back_free (size l) k rs (settle w n (suc k) (eliminated k rs)) free ih2.1 in
-    let few = room_limit l in
-    let len = ap (length {A = Made}) same in
-    ((free_pairs k rs rs free, omega arith, ih2.0, b.0), b.1)
-calm_if w n k zero rs true o e long rec le occ h many = absurd (omega arith)
-calm_if w n k (suc l) rs true o e long rec le occ h many =
+-- one variable more
+next_stage : (k l m : ℕ) (start : List Made) (t : Bool) → has_variable k start ≡ t → m ≡ one_if t + l → Stage k m start → Stage (suc k) l start
+next_stage k l m start true o e h =
+    let rs = level k start in
+    let top = h.most in
     let s = step l (omega arith) in
-    let made = eliminated_within (entry (suc l)) (entry l) k rs s.grows s.entries h in
+    let is : m ≡ suc l = omega arith in
+    let within = subst (λ (n : ℕ). AllByRecursion (MadeWithin (entry n)) rs) is h.within in
+    let few = subst (λ (n : ℕ). length rs ≤ room n) is h.few in
     let count = eliminated_room k rs (half l) s.two (omega (arith, s.halves)) in
-    let less = remaining_less k n (suc k) rs in
-    let ih = rec l (eliminated k rs) (omega arith) (omega arith) made (omega (arith, s.rooms)) in
-    let b = back_used w k l rs (settle w n (suc k) (eliminated k rs)) (omega arith) h
-    (λ p g. let q = (settled w n (suc k) (eliminated k rs) p (omega arith) g).0.long in omega arith) ih.1 in
-    let few = room_limit l in
-    ((all_pairs_fit (entry (suc l)) k rs rs s.fits h h, omega (arith, s.rooms), ih.0, b.0), b.1)
+    let limit = room_limit l in
+    record {
+      most = omega arith;
+      fits = (h.fits, (all_pairs_fit (entry (suc l)) k rs rs s.fits within within, omega (arith, s.rooms)));
+      within = eliminated_within (entry (suc l)) (entry l) k rs s.grows s.entries within;
+      few = omega (arith, s.rooms);
+    }
+next_stage k l m start false o e h =
+    let rs = level k start in
+    let is : m ≡ l = omega arith in
+    let free = free_level k k start (all_free k start o) in
+    let same = free_made k rs free in
+    let few = subst (λ (n : ℕ). length rs ≤ room n) is h.few in
+    let limit = room_limit l in
+    record {
+      most = subst (λ (n : ℕ). n ≤ 3) is h.most;
+      fits = (h.fits, free_fits k rs free (omega arith));
+      within = subst (AllByRecursion (MadeWithin (entry l))) (sym same) (subst (λ (n : ℕ). AllByRecursion (MadeWithin (entry n)) rs) is h.within);
+      few = subst (λ (z : List Made). length z ≤ room l) (sym same) few;
+    }
 
-pub calm : (w n k l : ℕ) (rs : List Made) → k + n ≡ w → w ≤ 63 → l ≤ 3 → remaining n k rs ≤ l → AllByRecursion (MadeWithin (entry l)) rs → length rs ≤ room l → Calm w n k rs × OutWithin (size l) (settle w n k rs)
-calm w zero k l rs e long le occ h many = (tt, ended_within (size l) w l rs (one_size l) h)
-calm w (suc n) k l rs e long le occ h many = calm_if w n k l rs (has_variable k rs) refl e long
-    (λ l zs a b c d. calm w n (suc k) l zs (omega arith) long a b c d) le occ h many
+module _ (w : ℕ) (start : List Made) (first : Stage zero (remaining w zero start) start) where
+  stage : (k n : ℕ) → k + n ≡ w → Stage k (remaining n k start) start
+  stage zero n e = let is : w ≡ n = omega arith in subst (λ (m : ℕ). Stage zero (remaining m zero start) start) is first
+  stage (suc k) n e = next_stage k (remaining n (suc k) start) (remaining (suc n) k start) start (has_variable k start) refl refl (stage k (suc n) (omega arith))
+
+  -- a point of the later rows, taken back over one variable
+  over_one : (k l m : ℕ) (p : Point) (t : Bool) → has_variable k start ≡ t → m ≡ one_if t + l → length p.numerators ≤ 63 → Stage k m start → PointWithin (size l) p →
+      PlacedFits k (level k start) p × PointWithin (size m) (placed k (level k start) p)
+  over_one k l m p true o e long h g =
+      let top = h.most in
+      let s = step l (omega arith) in
+      let is : m ≡ suc l = omega arith in
+      subst (λ (n : ℕ). PlacedFits k (level k start) p × PointWithin (size n) (placed k (level k start) p)) (sym is)
+      (placed_fits (entry (suc l)) (size l) (size (suc l)) k p s.sizes s.size_fits s.cross_fits long g (level k start) s.up
+      (subst (λ (n : ℕ). AllByRecursion (MadeWithin (entry n)) (level k start)) is h.within))
+  over_one k l m p false o e long h g =
+      let is : m ≡ l = omega arith in
+      let q = free_placed k (level k start) p (free_level k k start (all_free k start o)) in
+      (q.0, subst (PointWithin (size m)) (sym q.1) (subst (λ (n : ℕ). PointWithin (size n) p) (sym is) g))
+
+  back_fits : (k n : ℕ) (p : Point) → k + n ≡ w → w ≤ 63 → IsFrom w k p → PointWithin (size (remaining n k start)) p → BackFits k start p
+  back_fits zero n p e long h g = tt
+  back_fits (suc k) n p e long h g =
+      let wide = h.long in
+      let one = over_one k (remaining n (suc k) start) (remaining (suc n) k start) p (has_variable k start) refl refl (omega arith) (stage k (suc n) (omega arith)) g in
+      (one.0, back_fits k (suc n) (placed k (level k start) p) (omega arith) long (placed_from w k (level k start) p (omega arith) h) one.1)
+
+  origin_fits : w ≤ 63 → BackFits w start (origin w)
+  origin_fits long = back_fits w zero (origin w) (omega arith) long (origin_from w w) record { numerators = zeros_within 1 w; denominator = omega (arith, ints) }
+
+  all_levels : Stage w zero start
+  all_levels = stage w zero (omega arith)
+
+first_stage : (l : ℕ) (start : List Made) → l ≤ 3 → AllByRecursion (MadeWithin (entry 3)) start → length start ≤ room 3 → Stage zero l start
+first_stage l start le h few = record { most = le; fits = tt; within = all_more (entry 3) (entry l) start (smaller l le).0 h; few = let m = (smaller l le).1 in omega arith }
+  where
+    smaller : (l : ℕ) → l ≤ 3 → (entry 3 ≤ entry l) × (room 3 ≤ room l)
+    smaller zero le = (omega arith, omega arith)
+    smaller (suc zero) le = (omega arith, omega arith)
+    smaller (suc (suc zero)) le = (omega arith, omega arith)
+    smaller (suc (suc (suc l))) le = (omega arith, omega arith)
+
+    all_more : (m n : ℕ) (rs : List Made) → m ≤ n → AllByRecursion (MadeWithin m) rs → AllByRecursion (MadeWithin n) rs
+    all_more m n [] le h = tt
+    all_more m n (r ∷ rs) le h = (made_more m n r le h.0, all_more m n rs le h.1)
+
+-- all that is computed for modest rows
+pub record Modestly (w : ℕ) (start : List Made) : Type 0 where
+  pub levels : LevelFits w start
+  pub point : BackFits w start (origin w)
+  pub multipliers : (ms : List ℤ) → contradiction_of (level w start) ≡ Some ms → AreWithin (2 ^ 87) ms
+
+pub modest_fits : (w : ℕ) (start : List Made) → w ≤ 63 → remaining w zero start ≤ 3 → AllByRecursion (MadeWithin (entry 3)) start → length start ≤ room 3 → Modestly w start
+modest_fits w start long le h few =
+    let first = first_stage (remaining w zero start) start le h few in
+    let last = all_levels w start first in
+    record {
+      levels = last.fits;
+      point = origin_fits w start first long;
+      multipliers = λ ms e. first_has (MadeWithin (2 ^ 87)) (AreWithin (2 ^ 87)) (λ r g _. g.multipliers) ms (level w start) last.within e;
+    }

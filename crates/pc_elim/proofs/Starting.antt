@@ -1,5 +1,6 @@
 -- The rows at the start: each is made of itself alone.
 use Rattle.std.proofs.Common.{◌≡◌, ℕ, zero, suc, ◌+◌, ◌≤◌, ◌<◌, ◌^◌, ℤ, pos, ◌+ℤ◌, refl, sym, subst, ◌∙◌, ap, arith, ◌≤ℤ◌, List, [], ◌∷◌, ◌++◌, Bool, length, take, drop, replicate, slice_get, Some}
+use Rattle.std.proofs.lemmas.Grind.{common_steps}
 use Rattle.std.proofs.lemmas.List.{take_more, take_all, length-take-le}
 use Rattle.std.proofs.lemmas.Option.{slice_get_within, get_or_from_slice_get}
 use Rattle.std.specs.Prelude.{not, ◌||◌}
@@ -16,8 +17,9 @@ use Rattle.pc_rows.specs.Points.{AllMeetAt}
 use Rattle.pc_rows.specs.Modest.{occurs, occurring}
 use Rattle.pc_rows.proofs.Bounding.{more_within}
 use Rattle.pc_rows.proofs.Algebra.{same_row, scaled_one, length-scale_list}
-use Rattle.pc_elim.specs.Elimination.{Made, has_variable, combination, unit, started_from, started}
-use Rattle.pc_elim.proofs.Soundness.{Good}
+use Rattle.pc_elim.specs.Elimination.{Made, combination, unit, started_from, started}
+use Rattle.pc_elim.specs.Places.{has_variable}
+use Rattle.pc_elim.proofs.Soundness.{Good, IsFull}
 use Rattle.pc_elim.proofs.Counting.{one_if}
 use Rattle.pc_elim.proofs.SmallRows.{MadeWithin, row_more}
 use Rattle.pc_elim.proofs.Placing.{AllMeet}
@@ -139,6 +141,10 @@ started_good parts n base (r ∷ rows) h g le e = (
   ),
   started_good parts (n + 1) base rows h g.1 (omega arith) (drop_next n base r rows e),
 )
+
+pub started_full : (parts n : ℕ) (rows : List Linear) → AllByRecursion (IsFull parts) (started_from parts n rows)
+started_full parts n [] = tt
+started_full parts n (r ∷ rows) = (grind (arith, common_steps), started_full parts (n + 1) rows)
 
 pub started_within : (parts n : ℕ) (rows : List Linear) → AllWithin MODEST_NUMBER rows → AllByRecursion (MadeWithin (entry 3)) (started_from parts n rows)
 started_within parts n [] h = tt

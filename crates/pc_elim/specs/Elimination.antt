@@ -1,6 +1,6 @@
 -- Fourier-Motzkin elimination: a variable goes from rows by the combinations of two rows in which it has opposite signs.
-use Rattle.std.specs.Prelude.{◌≡◌, ℕ, zero, suc, ◌+◌, ℤ, pos, neg_ℤ, ◌≤ℤ◌, int_lt, Bool, not, List, [], ◌∷◌, ◌++◌, slice_set, slice_index_or, replicate, if◌then◌else◌}
-use Rattle.std.specs.List.{AllByRecursion, list_any}
+use Rattle.std.specs.Prelude.{◌≡◌, ℕ, zero, suc, ◌+◌, ℤ, pos, neg_ℤ, ◌≤ℤ◌, int_lt, Bool, List, [], ◌∷◌, ◌++◌, slice_set, replicate, if◌then◌else◌}
+use Rattle.std.specs.List.{AllByRecursion}
 use Rattle.pc_rows.specs.Linear.{Linear, add_lists, scale_list, sum_of, scaled_by, coefficient, is_zero}
 use Rattle.pc_rows.specs.Shows.{nothing_row}
 pub use Rattle.pc_elim.specs.Values.{Made, Bound}
@@ -54,24 +54,6 @@ eliminated k rs = flat (kept_of k) rs ++ flat (combined_of k rs) rs
 abbrev pub level : ℕ → List Made → List Made
 level zero rs = rs
 level (suc k) rs = eliminated k (level k rs)
-
--- the place of a row in which variable k has a negative factor
-abbrev pub place_of : ℕ → ℕ → Made → List ℕ
-place_of k i r = if is_positive (neg_ℤ (factor r k)) then (i ∷ []) else []
-
--- the places of these rows, counted from i on
-abbrev pub places_below : ℕ → ℕ → List Made → List ℕ
-places_below k i [] = []
-places_below k i (r ∷ rs) = place_of k i r ++ places_below k (i + 1) rs
-
--- the combinations of p with the rows at these places
-abbrev pub combined_at : ℕ → Made → List Made → List ℕ → List Made
-combined_at k p all [] = []
-combined_at k p all (i ∷ places) = combine k p (slice_index_or all i p) ∷ combined_at k p all places
-
--- some row has the variable
-abbrev pub has_variable : ℕ → List Made → Bool
-has_variable k rs = list_any (λ r. not (is_zero (factor r k))) rs
 
 -- the sum of the rows, each times its multiplier
 abbrev pub combination : List ℤ → List Linear → Linear

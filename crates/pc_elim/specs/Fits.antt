@@ -1,17 +1,12 @@
 -- What has to be in range, and how many rows there may be, for a system to be settled.
-use Rattle.std.specs.Prelude.{◌≡◌, ◌++◌, ◌<◌, ◌≤◌, ℕ, suc, zero, ℤ, ◌+ℤ◌, ◌*ℤ◌, neg_ℤ, Bool, true, false, List, [], ◌∷◌, Option, Some, None, Result, Ok, Err, length}
+use Rattle.std.specs.Prelude.{◌≡◌, ◌≤◌, ℕ, suc, zero, ℤ, ◌*ℤ◌, neg_ℤ, Bool, true, false, List, [], ◌∷◌, Option, Some, None, length}
 use Rattle.std.specs.List.{AllByRecursion}
 use Rattle.pc_rows.specs.Linear.{Linear, InRange, AllInRange, IsInRange, scale_list, sum_of, scaled_by}
 use Rattle.pc_rows.specs.Evidence.{Point}
 use Rattle.pc_rows.specs.Points.{NumeratorFits, over_multiple}
-use Rattle.pc_elim.specs.declared.settle.Found.{Found}
-use Rattle.pc_elim.specs.declared.settle.Found.TheVariants.{Shown, At}
-use Rattle.pc_elim.specs.declared.made.Fault.{Fault}
-use Rattle.pc_elim.specs.declared.made.Fault.TheVariants.{Past, Full, NoMemory}
 use Rattle.pc_elim.specs.declared.made.TheConstants.{LIMIT}
 use Rattle.pc_elim.specs.Elimination.{Made, Bound, is_positive, factor, weigh, eliminated, level}
-use Rattle.pc_elim.specs.Placing.{bound_of, turned, next_bound, greatest}
-use Rattle.pc_elim.specs.Settling.{settle}
+use Rattle.pc_elim.specs.Placing.{bound_of, turned, next_bound, greatest, placed}
 
 -- b times the first row plus a times the second: each product and each sum
 pub record RowFits (b : ℤ) (p : Linear) (a : ℤ) (n : Linear) : Type 0 where
@@ -24,12 +19,6 @@ pub record WeighFits (b : ℤ) (p : List ℤ) (a : ℤ) (n : List ℤ) : Type 0 
   pub left : AllInRange (scale_list b p)
   pub right : AllInRange (scale_list a n)
   pub sum : AllInRange (weigh b p a n)
-
--- the constant alone
-pub record ConstantFits (b c a d : ℤ) : Type 0 where
-  pub left : InRange (b *ℤ c)
-  pub right : InRange (a *ℤ d)
-  pub sum : InRange (b *ℤ c +ℤ a *ℤ d)
 
 -- all that is computed for a combination
 pub record CombineFits (k : ℕ) (p n : Made) : Type 0 where
@@ -44,40 +33,14 @@ PairFits k p n = is_positive (neg_ℤ (factor n k)) ≡ true → CombineFits k p
 abbrev pub AllPairsFit : ℕ → List Made → Made → Type 0
 AllPairsFit k all r = is_positive (factor r k) ≡ true → AllByRecursion (PairFits k r) all
 
--- the items are added, unless a number does not fit, or there is no memory
-abbrev pub Adds : List Made → Type 0 → List Made → Result (Unit {0}) Fault → List Made → Type 0
-Adds items Fits old (Ok u) new = new ≡ old ++ items
-Adds items Fits old (Err Past) new = Fits → ⊥
-Adds items Fits old (Err Full) new = ⊥
-Adds items Fits old (Err NoMemory) new = Unit {0}
-
--- the places are added, unless there is no memory
-abbrev pub PlacesAdded : List ℕ → List ℕ → Result (Unit {0}) Fault → List ℕ → Type 0
-PlacesAdded places old (Ok u) new = new ≡ old ++ places
-PlacesAdded places old (Err Past) new = ⊥
-PlacesAdded places old (Err Full) new = ⊥
-PlacesAdded places old (Err NoMemory) new = Unit {0}
-
--- how many rows an elimination makes; Full comes exactly where these are too many
-abbrev pub CountIs : ℕ → List Made → Result ℕ Fault → Type 0
-CountIs k rs (Ok count) = (count ≡ length (eliminated k rs)) × (count ≤ LIMIT)
-CountIs k rs (Err Full) = LIMIT < length (eliminated k rs)
-CountIs k rs (Err Past) = ⊥
-CountIs k rs (Err NoMemory) = ⊥
-
 -- all that is computed to eliminate variable k is in range, and there is room for the rows
 abbrev pub EliminationFits : ℕ → List Made → Type 0
 EliminationFits k rs = AllByRecursion (AllPairsFit k rs) rs × length (eliminated k rs) ≤ LIMIT
 
--- variable after variable
+-- the first k variables one after another
 abbrev pub LevelFits : ℕ → List Made → Type 0
 LevelFits zero rs = Unit {0}
 LevelFits (suc k) rs = LevelFits k rs × EliminationFits k (level k rs)
-
--- the value, unless what has to be in range is not
-abbrev pub Unless : {A E : Type 0} → Result A E → A → Type 0 → Type 0
-Unless (Ok x) v Fits = x ≡ v
-Unless (Err e) v Fits = Fits → ⊥
 
 -- the cross products that compare a bound with the best so far
 abbrev pub GreaterFits : Option Bound → Bound → Type 0
@@ -103,35 +66,21 @@ pub record AtFits (p : Point) (b : Bound) : Type 0 where
   pub numerators : AllInRange (over_multiple b.weight p).numerators
   pub denominator : InRange (over_multiple b.weight p).denominator
 
--- only the bound that is taken
-abbrev pub ByFits : Point → Option Bound → Option Bound → Type 0
-ByFits p (Some lower) upper = AtFits p lower
-ByFits p None (Some upper) = AtFits p upper
-ByFits p None None = Unit {0}
+-- the bound that is taken, where there is one
+abbrev pub TakenFits : Point → Option Bound → Type 0
+TakenFits p None = Unit {0}
+TakenFits p (Some b) = AtFits p b
+
+-- upper bounds are looked at only where there is no lower bound
+abbrev pub ByFits : ℕ → List Made → Point → Option Bound → Type 0
+ByFits k rs p (Some lower) = AtFits p lower
+ByFits k rs p None = GreatestFits true k p None rs × TakenFits p (greatest true k p None rs)
 
 -- all that is computed to take a point back over variable k
-pub record PlacedFits (k : ℕ) (rs : List Made) (p : Point) : Type 0 where
-  pub lower : GreatestFits false k p None rs
-  pub upper : GreatestFits true k p None rs
-  pub at : ByFits p (greatest false k p None rs) (greatest true k p None rs)
+abbrev pub PlacedFits : ℕ → List Made → Point → Type 0
+PlacedFits k rs p = GreatestFits false k p None rs × ByFits k rs p (greatest false k p None rs)
 
--- multipliers are passed on as they are
-abbrev pub BackFits : ℕ → List Made → Found → Type 0
-BackFits k rs (Shown multipliers) = Unit {0}
-BackFits k rs (At p) = PlacedFits k rs p
-
--- all that is computed to settle the rows is in range, and there is room for the rows
-abbrev pub Calm : ℕ → ℕ → ℕ → List Made → Type 0
-Calm width zero k rs = Unit {0}
-Calm width (suc n) k rs =
-    AllByRecursion (AllPairsFit k rs) rs ×
-    length (eliminated k rs) ≤ LIMIT ×
-    Calm width n (suc k) (eliminated k rs) ×
-    BackFits k rs (settle width n (suc k) (eliminated k rs))
-
--- the answer, unless something does not fit, or there is no memory
-abbrev pub SettleIs : {A : Type 0} → A → Type 0 → Result A Fault → Type 0
-SettleIs v Fits (Ok f) = f ≡ v
-SettleIs v Fits (Err Past) = Fits → ⊥
-SettleIs v Fits (Err Full) = Fits → ⊥
-SettleIs v Fits (Err NoMemory) = Unit {0}
+-- over the last of the first k variables, and then over those before it
+abbrev pub BackFits : ℕ → List Made → Point → Type 0
+BackFits zero start p = Unit {0}
+BackFits (suc k) start p = PlacedFits k (level k start) p × BackFits k start (placed k (level k start) p)

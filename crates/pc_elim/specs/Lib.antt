@@ -1,7 +1,9 @@
 pub mod Values
 pub mod Small
 pub mod Elimination
+pub mod Places
 pub mod Placing
 pub mod Settling
 pub mod Fits
+pub mod Steps
 pub mod Deciding

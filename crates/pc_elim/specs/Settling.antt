@@ -5,7 +5,7 @@ use Rattle.pc_rows.specs.Linear.{is_zero}
 use Rattle.pc_rows.specs.Evidence.{Point, Proof}
 use Rattle.pc_elim.specs.declared.settle.Found.{Found}
 use Rattle.pc_elim.specs.declared.settle.Found.TheVariants.{Shown, At}
-use Rattle.pc_elim.specs.Elimination.{Made, eliminated}
+use Rattle.pc_elim.specs.Elimination.{Made, level}
 use Rattle.pc_elim.specs.Placing.{placed}
 
 -- the point at which all variables are 0
@@ -21,25 +21,19 @@ abbrev pub contradiction_of : List Made → Option (List ℤ)
 contradiction_of [] = None
 contradiction_of (r ∷ rs) = if is_contradiction r then Some r.multipliers else contradiction_of rs
 
--- without variables: the multipliers of the first contradiction, or the origin where there is none
-abbrev pub ended : ℕ → List Made → Found
-ended width [] = At (origin width)
-ended width (r ∷ rs) = if is_contradiction r then Shown r.multipliers else ended width rs
+-- a point of the rows without the first k variables is taken back over the last of these, and then over those before it
+abbrev pub taken_back : ℕ → List Made → Point → Point
+taken_back zero start p = p
+taken_back (suc k) start p = taken_back k start (placed k (level k start) p)
 
--- the same of what is known of contradictions
-abbrev pub found_by : ℕ → Option (List ℤ) → Found
-found_by width (Some multipliers) = Shown multipliers
-found_by width None = At (origin width)
+-- by the contradiction, or by the origin taken back over all variables where there is none
+abbrev pub settled_by : ℕ → List Made → Option (List ℤ) → Found
+settled_by width start (Some multipliers) = Shown multipliers
+settled_by width start None = At (taken_back width start (origin width))
 
--- a point is taken back over variable k
-abbrev pub back_over : ℕ → List Made → Found → Found
-back_over k rs (Shown multipliers) = Shown multipliers
-back_over k rs (At p) = At (placed k rs p)
-
--- over the n variables from k on: variable k is eliminated, the rest is settled, and a point is taken back over k
-abbrev pub settle : ℕ → ℕ → ℕ → List Made → Found
-settle width zero k rs = ended width rs
-settle width (suc n) k rs = back_over k rs (settle width n (suc k) (eliminated k rs))
+-- a contradiction of the rows without variables is looked for
+abbrev pub settle : ℕ → List Made → Found
+settle width start = settled_by width start (contradiction_of (level width start))
 
 -- the multipliers other than 0, with their indices from i on
 abbrev pub parts_from : ℕ → List ℤ → List Part

@@ -1,9 +1,9 @@
 //! Bounds of a variable, and the value that it gets between them.
 
-ghost use Rattle.std.specs.Prelude.{◌≡◌, ◌<◌, ℤ, pos, ◌≤ℤ◌, Some, None};
+ghost use Rattle.std.specs.Prelude.{◌≡◌, ◌<◌, ℤ, pos, ◌≤ℤ◌, Some, None, OkIff};
 ghost use Rattle.pc_elim.specs.Elimination.{is_positive, factor};
 ghost use Rattle.pc_elim.specs.Placing.{turned, is_below, next_bound, greater, greatest, placed_at, placed};
-ghost use Rattle.pc_elim.specs.Fits.{Unless, GreaterFits, NextFits, GreatestFits, AtFits, PlacedFits};
+ghost use Rattle.pc_elim.specs.Fits.{GreaterFits, NextFits, GreatestFits, AtFits, PlacedFits};
 
 use crate::made::{Made, is_positive};
 use pc_rows::{Number, Past, Point, VARIABLES};
@@ -28,10 +28,11 @@ impl Model for Bound {
 }
 
 /// The point with variable `k`, which is 0 there, at its greatest lower bound in the rows, else at
-/// its least upper bound, else at 0.
+/// its least upper bound, else at 0. `Past` exactly where a number that this takes is not in range;
+/// upper bounds take none where there is a lower one.
 pub fn placed(k: u32, rows: &[Made], p: Point) -> Result<Point, Past>
     requires { k < VARIABLES }
-    ensures { Unless result (placed k rows.now p) (PlacedFits k rows.now p) }
+    ensures { OkIff result (PlacedFits k rows.now p) (placed k rows.now p) }
 {
     match greatest(false, k, &p, rows)? {
         Some(lower) => placed_at(false, k, &p, lower),
@@ -45,7 +46,7 @@ pub fn placed(k: u32, rows: &[Made], p: Point) -> Result<Point, Past>
 fn placed_at(opposite: bool, k: u32, p: &Point, b: Bound) -> Result<Point, Past>
     requires variable { k < VARIABLES }
     requires positive { pos 1 ≤ℤ b.weight }
-    ensures { Unless result (placed_at opposite k p.now b) (AtFits p.now b) }
+    ensures { OkIff result (AtFits p.now b) (placed_at opposite k p.now b) }
 {
     let scaled = p.over_multiple(b.weight)?;
     Ok(scaled.with(k, turned(opposite, b.number)))
@@ -60,7 +61,7 @@ fn turned(opposite: bool, z: Number) -> Number
 /// The greatest bound that the rows give to the variable, or to its opposite.
 fn greatest(opposite: bool, k: u32, p: &Point, rows: &[Made]) -> Result<Option<Bound>, Past>
     requires { k < VARIABLES }
-    ensures { Unless result (greatest opposite k p.now None rows.now) (GreatestFits opposite k p.now None rows.now) }
+    ensures { OkIff result (GreatestFits opposite k p.now None rows.now) (greatest opposite k p.now None rows.now) }
 {
     let mut best = None;
     for r in rows {
@@ -77,7 +78,7 @@ fn next_bound(
     r: &Made,
 ) -> Result<Option<Bound>, Past>
     requires { k < VARIABLES }
-    ensures { Unless result (next_bound opposite k p.now best r.now) (NextFits opposite k p.now best r.now) }
+    ensures { OkIff result (NextFits opposite k p.now best r.now) (next_bound opposite k p.now best r.now) }
 {
     let weight = turned(opposite, r.factor(k));
     if !is_positive(weight) {
@@ -88,7 +89,7 @@ fn next_bound(
 }
 
 fn greater(best: Option<Bound>, b: Bound) -> Result<Option<Bound>, Past>
-    ensures { Unless result (greater best b) (GreaterFits best b) }
+    ensures { OkIff result (GreaterFits best b) (greater best b) }
 {
     match best {
         None => Ok(Some(b)),
@@ -103,7 +104,7 @@ fn greater(best: Option<Bound>, b: Bound) -> Result<Option<Bound>, Past>
 }
 
 fn is_below(a: Bound, b: Bound) -> Result<bool, Past>
-    ensures { Unless result (is_below a b) (GreaterFits (Some a) b) }
+    ensures { OkIff result (GreaterFits (Some a) b) (is_below a b) }
 {
     let left = a.number.times(b.weight)?;
     let right = b.number.times(a.weight)?;

@@ -7,9 +7,11 @@
 ghost use Rattle.std.specs.Prelude.{◌≡◌, ◌<◌, ◌≤◌, Some, ◌+ℤ◌, ◌*ℤ◌, OkIff, [], ◌∷◌, length};
 ghost use Rattle.std.specs.List.{AllByRecursion};
 ghost use Rattle.pc_elim.specs.declared.made.TheConstants.{LIMIT};
-ghost use Rattle.pc_elim.specs.Elimination.{combine, factor, flat, with_each, kept_of, combined_of, eliminated, places_below};
+ghost use Rattle.pc_elim.specs.Elimination.{combine, factor, flat, with_each, kept_of, combined_of, eliminated};
+ghost use Rattle.pc_elim.specs.Places.{places_below};
 ghost use Rattle.pc_elim.specs.Settling.{contradiction_of};
-ghost use Rattle.pc_elim.specs.Fits.{ConstantFits, CombineFits, PairFits, AllPairsFit, EliminationFits, SettleIs};
+ghost use Rattle.pc_elim.specs.Fits.{CombineFits, PairFits, AllPairsFit, EliminationFits};
+ghost use Rattle.pc_elim.specs.Steps.{ConstantFits, SettleIs, Unless};
 
 use crate::made::{Fault, LIMIT, Made, PARTS, is_positive};
 use crate::pairs::{combined, eliminated};
@@ -72,7 +74,7 @@ fn each(k: u32, all: &[Made], below: &[usize]) -> Result<Option<[Number; PARTS]>
     requires variable { k < VARIABLES }
     requires most { length all.now ≤ LIMIT }
     requires places { below.now ≡ places_below k 0 all.now }
-    ensures { SettleIs (contradiction_of (flat (combined_of k all.now) all.now)) (AllByRecursion (AllPairsFit k all.now) all.now) result }
+    ensures { Unless (contradiction_of (flat (combined_of k all.now) all.now)) (AllByRecursion (AllPairsFit k all.now) all.now) result }
 {
     for r in all {
         match one(k, r, all, below)? {
@@ -87,7 +89,7 @@ fn one(k: u32, r: &Made, all: &[Made], below: &[usize]) -> Result<Option<[Number
     requires variable { k < VARIABLES }
     requires most { length all.now ≤ LIMIT }
     requires places { below.now ≡ places_below k 0 all.now }
-    ensures { SettleIs (contradiction_of (combined_of k all.now r.now)) (AllPairsFit k all.now r.now) result }
+    ensures { Unless (contradiction_of (combined_of k all.now r.now)) (AllPairsFit k all.now r.now) result }
 {
     if is_positive(r.factor(k)) {
         pairs(k, r, all, below)
@@ -100,7 +102,7 @@ fn pairs(k: u32, p: &Made, all: &[Made], below: &[usize]) -> Result<Option<[Numb
     requires variable { k < VARIABLES }
     requires most { length all.now ≤ LIMIT }
     requires places { below.now ≡ places_below k 0 all.now }
-    ensures { SettleIs (contradiction_of (with_each k p.now all.now)) (AllByRecursion (PairFits k p.now) all.now) result }
+    ensures { Unless (contradiction_of (with_each k p.now all.now)) (AllByRecursion (PairFits k p.now) all.now) result }
 {
     for i in below {
         match pair(k, p, &all[*i])? {
@@ -114,7 +116,7 @@ fn pairs(k: u32, p: &Made, all: &[Made], below: &[usize]) -> Result<Option<[Numb
 /// The multipliers of the combination of the two rows, where it is a contradiction.
 fn pair(k: u32, p: &Made, n: &Made) -> Result<Option<[Number; PARTS]>, Fault>
     requires { k < VARIABLES }
-    ensures { SettleIs (contradiction_of (combine k p.now n.now ∷ [])) (CombineFits k p.now n.now) result }
+    ensures { Unless (contradiction_of (combine k p.now n.now ∷ [])) (CombineFits k p.now n.now) result }
 {
     match constant(n.factor(k).negated(), p, p.factor(k), n) {
         Ok(constant) => {
@@ -137,7 +139,7 @@ fn constant(b: Number, p: &Made, a: Number, n: &Made) -> Result<Number, Past>
 
 fn multipliers(k: u32, p: &Made, n: &Made) -> Result<Option<[Number; PARTS]>, Fault>
     requires { k < VARIABLES }
-    ensures { SettleIs (Some (combine k p.now n.now).multipliers) (CombineFits k p.now n.now) result }
+    ensures { Unless (Some (combine k p.now n.now).multipliers) (CombineFits k p.now n.now) result }
 {
     match combined(k, p, n) {
         Ok(made) => Ok(Some(*made.multipliers())),

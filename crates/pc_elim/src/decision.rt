@@ -1,13 +1,13 @@
 //! Whether a system's premises show its goal.
 
 ghost use Rattle.std.specs.Prelude.{◌≡◌, ◌<◌, ◌≤◌, ◌+◌, [], ◌∷◌, ◌++◌, IfOk};
-ghost use Rattle.pc_rows.specs.Linear.{negation};
+ghost use Rattle.pc_rows.specs.Linear.{IsInRange, negation};
 ghost use Rattle.pc_rows.specs.Evidence.{IsAbove, IsSystem};
 ghost use Rattle.pc_rows.specs.Modest.{refuting};
 ghost use Rattle.pc_elim.specs.declared.made.TheConstants.{PARTS};
 ghost use Rattle.pc_elim.specs.Elimination.{started, unit};
 ghost use Rattle.pc_elim.specs.Settling.{proof_of, parts_from};
-ghost use Rattle.pc_elim.specs.Deciding.{DecideIs, ShownIs};
+ghost use Rattle.pc_elim.specs.Deciding.{DecideIs, AnswerIs, ShownIs};
 
 use crate::made::{Fault, Made, PARTS};
 use crate::settle::{Found, settle};
@@ -22,19 +22,32 @@ pub enum Answer {
     Shown(Proof),
     /// The point meets the premises and the negated goal, so that no proof shows the goal.
     Point(Point),
-    /// A number is not in range, or there are more than `LIMIT` rows. No modest system is unsettled.
+    /// A number is not in range, or an elimination would make more than `LIMIT` rows. No modest
+    /// system is unsettled.
     Unsettled,
 }
 
-/// Decides whether the premises show the goal.
+/// Decides whether the premises show the goal. `Unsettled` comes exactly where the elimination of a
+/// variable would make more than `LIMIT` rows, or a number that the answer takes is not in range.
 pub fn decide(alloc: Global, s: &System) -> Result<Answer, NoMemory>
-    ensures { DecideIs s.now result }
+    ensures exact { AnswerIs s.now result }
+    ensures evidence { DecideIs s.now result }
 {
     let negated = match s.goal().negated() {
         Ok(negated) => negated,
         Err(Past) => return Ok(Answer::Unsettled),
     };
-    let rows = started(alloc, s, &negated)?;
+    refute(alloc, s, &negated)
+}
+
+/// The same, where the negated goal is in range.
+fn refute(alloc: Global, s: &System, negated: &Row) -> Result<Answer, NoMemory>
+    requires negated { negated.now ≡ negation s.now.goal }
+    requires range { IsInRange (negation s.now.goal) }
+    ensures exact { AnswerIs s.now result }
+    ensures system { IsSystem s.now }
+{
+    let rows = started(alloc, s, negated)?;
     match settle(alloc, rows.as_slice()) {
         Ok(Found::Shown(multipliers)) => shown(alloc, s, &multipliers),
         Ok(Found::At(p)) => Ok(Answer::Point(p)),

@@ -15,6 +15,8 @@ const _: () = prove!(PARTS == PREMISES + 1);
 /// The most rows that an elimination may make.
 pub const LIMIT: usize = 26244;
 
+const _: () = prove!(LIMIT == 26244);
+
 /// Why rows are not settled.
 #[derive(Clone, Copy, Debug, PartialEq, Eq)]
 pub enum Fault {

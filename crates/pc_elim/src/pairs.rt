@@ -4,8 +4,10 @@ ghost use Rattle.std.specs.Prelude.{◌≡◌, ◌<◌, ◌≤◌, OkIff, IfOk, 
 ghost use Rattle.std.specs.List.{AllByRecursion};
 ghost use Rattle.pc_rows.specs.Linear.{sum_of, scaled_by};
 ghost use Rattle.pc_elim.specs.declared.made.TheConstants.{LIMIT};
-ghost use Rattle.pc_elim.specs.Elimination.{combine, weigh, flat, with_each, kept_of, combined_of, eliminated, places_below};
-ghost use Rattle.pc_elim.specs.Fits.{RowFits, WeighFits, CombineFits, PairFits, AllPairsFit, EliminationFits, Adds, SettleIs};
+ghost use Rattle.pc_elim.specs.Elimination.{combine, weigh, flat, with_each, kept_of, combined_of, eliminated};
+ghost use Rattle.pc_elim.specs.Places.{places_below};
+ghost use Rattle.pc_elim.specs.Fits.{RowFits, WeighFits, CombineFits, PairFits, AllPairsFit, EliminationFits};
+ghost use Rattle.pc_elim.specs.Steps.{Adds, SettleIs};
 
 use crate::made::{Fault, LIMIT, Made, PARTS, is_positive};
 use crate::places::{made_count, places_below};
@@ -44,7 +46,7 @@ fn with_room(alloc: Global, count: usize) -> Result<Items<Made>, Fault>
 /// Adds the rows that do not have the variable.
 fn keep(k: u32, rows: &[Made], out: &mut Items<Made>) -> Result<(), Fault>
     requires { k < VARIABLES }
-    ensures { Adds (flat (kept_of k) rows.now) (AllByRecursion (λ r. Unit {0}) rows.now) out.old result out.new }
+    ensures { Adds (flat (kept_of k) rows.now) (Unit {0}) out.old result out.new }
 {
     for r in rows {
         keep_one(k, r, out)?;

@@ -3,8 +3,9 @@
 ghost use Rattle.std.specs.Prelude.{◌≡◌, ◌<◌, ◌≤◌, length, count_by};
 ghost use Rattle.pc_rows.specs.Linear.{is_zero};
 ghost use Rattle.pc_elim.specs.declared.made.TheConstants.{LIMIT};
-ghost use Rattle.pc_elim.specs.Elimination.{factor, is_positive, place_of, places_below};
-ghost use Rattle.pc_elim.specs.Fits.{PlacesAdded, CountIs, SettleIs};
+ghost use Rattle.pc_elim.specs.Elimination.{factor, is_positive};
+ghost use Rattle.pc_elim.specs.Places.{place_of, places_below};
+ghost use Rattle.pc_elim.specs.Steps.{PlacesAdded, CountIs, SettleIs};
 
 use crate::made::{Fault, LIMIT, Made, is_positive};
 use pc_rows::VARIABLES;

@@ -4,17 +4,20 @@
 //! made anew from the start instead of kept, since all of them together would take hundreds of
 //! megabytes: no more than two lists of rows are held at a time.
 
-ghost use Rattle.std.specs.Prelude.{◌≡◌, ◌<◌, ◌≤◌, ◌+◌, ◌-◌, IfOk, length};
+ghost use Rattle.std.specs.Prelude.{◌≡◌, ◌<◌, ◌≤◌, IfOk, length};
 ghost use Rattle.pc_elim.specs.declared.made.TheConstants.{LIMIT};
-ghost use Rattle.pc_elim.specs.Elimination.{eliminated, level, has_variable};
-ghost use Rattle.pc_elim.specs.Settling.{found_by, ended, settle};
-ghost use Rattle.pc_elim.specs.Fits.{EliminationFits, LevelFits, Calm, SettleIs};
+ghost use Rattle.pc_elim.specs.Elimination.{eliminated, level};
+ghost use Rattle.pc_elim.specs.Places.{has_variable};
+ghost use Rattle.pc_elim.specs.Placing.{placed};
+ghost use Rattle.pc_elim.specs.Settling.{contradiction_of, taken_back, settle};
+ghost use Rattle.pc_elim.specs.Fits.{EliminationFits, LevelFits, PlacedFits, BackFits};
+ghost use Rattle.pc_elim.specs.Steps.{SettleFits, SettleIs};
 
 use crate::bound::placed;
 use crate::contradiction::{contradiction, last_contradiction};
 use crate::made::{Fault, Made, PARTS};
 use crate::pairs::eliminated;
-use pc_rows::{Number, Point, VARIABLES};
+use pc_rows::{Number, Past, Point, VARIABLES};
 use sqlite_items::Items;
 use std::alloc::Global;
 
@@ -27,68 +30,68 @@ pub enum Found {
     At(Point),
 }
 
-/// Settles the rows.
+/// Settles the rows. `Full` and `Past` come exactly where an elimination would make more than `LIMIT`
+/// rows or a number that this takes is not in range.
 pub fn settle(alloc: Global, rows: &[Made]) -> Result<Found, Fault>
     requires { length rows.now ≤ LIMIT }
-    ensures { SettleIs (settle VARIABLES VARIABLES 0 rows.now) (Calm VARIABLES VARIABLES 0 rows.now) result }
+    ensures { SettleIs (settle VARIABLES rows.now) (SettleFits VARIABLES rows.now) result }
 {
-    let found = last(alloc, VARIABLES as u32, rows)?;
-    from(alloc, 0, rows, found)
+    match last(alloc, VARIABLES as u32, rows)? {
+        Some(multipliers) => Ok(Found::Shown(multipliers)),
+        None => {
+            let p = taken_back(alloc, VARIABLES as u32, rows, Point::origin())?;
+            Ok(Found::At(p))
+        }
+    }
 }
 
-/// Whether there is a contradiction among the rows without the first `k` variables. Of the last of
-/// these variables that occurs the combinations are looked at one by one.
-fn last(alloc: Global, k: u32, start: &[Made]) -> Result<Found, Fault>
+/// The multipliers of the first contradiction among the rows without the first `k` variables. Of
+/// the last of these variables that occurs the combinations are looked at one by one.
+fn last(alloc: Global, k: u32, start: &[Made]) -> Result<Option<[Number; PARTS]>, Fault>
     requires variable { k ≤ VARIABLES }
     requires most { length start.now ≤ LIMIT }
-    ensures { SettleIs (ended VARIABLES (level k start.now)) (LevelFits k start.now) result }
+    ensures { SettleIs (contradiction_of (level k start.now)) (LevelFits k start.now) result }
 {
     if k == 0 {
-        return Ok(found_by(contradiction(start)));
+        return Ok(contradiction(start));
     }
     if !has_variable(k - 1, start) {
         return last(alloc, k - 1, start);
     }
     let rows = level(alloc, k - 1, start)?;
-    let contradiction = last_contradiction(alloc, k - 1, rows.as_slice())?;
-    Ok(found_by(contradiction))
+    last_contradiction(alloc, k - 1, rows.as_slice())
 }
 
-/// How the rows without the first `k` variables are settled, where `found` says how those without
-/// all of them are.
-fn from(alloc: Global, k: u32, start: &[Made], found: Found) -> Result<Found, Fault>
+/// Takes a point that meets the rows without the first `k` variables back over these, from the last
+/// of them to the first.
+fn taken_back(alloc: Global, k: u32, start: &[Made], p: Point) -> Result<Point, Fault>
     requires variable { k ≤ VARIABLES }
     requires most { length start.now ≤ LIMIT }
-    requires last { found ≡ ended VARIABLES (level VARIABLES start.now) }
-    ensures { SettleIs (settle VARIABLES (VARIABLES - k) k (level k start.now)) (Calm VARIABLES VARIABLES 0 start.now) result }
+    requires levels { LevelFits k start.now }
+    ensures { SettleIs (taken_back k start.now p) (BackFits k start.now p) result }
 {
-    if k as usize == VARIABLES {
-        return Ok(found);
+    if k == 0 {
+        return Ok(p);
     }
-    let later = from(alloc, k + 1, start, found)?;
-    back_over(alloc, k, start, later)
+    let earlier = taken_over(alloc, k - 1, start, p)?;
+    taken_back(alloc, k - 1, start, earlier)
 }
 
 /// Takes a point that meets the rows without the first `k + 1` variables back over variable `k`. A
 /// variable that the rows at the start lack keeps its place, since no later row has it.
-fn back_over(alloc: Global, k: u32, start: &[Made], found: Found) -> Result<Found, Fault>
+fn taken_over(alloc: Global, k: u32, start: &[Made], p: Point) -> Result<Point, Fault>
     requires variable { k < VARIABLES }
     requires most { length start.now ≤ LIMIT }
-    requires later { found ≡ settle VARIABLES (VARIABLES - (k + 1)) (k + 1) (level (k + 1) start.now) }
-    ensures { SettleIs (settle VARIABLES (VARIABLES - k) k (level k start.now)) (Calm VARIABLES VARIABLES 0 start.now) result }
+    requires levels { LevelFits k start.now }
+    ensures { SettleIs (placed k (level k start.now) p) (PlacedFits k (level k start.now) p) result }
 {
-    match found {
-        Found::Shown(multipliers) => Ok(Found::Shown(multipliers)),
-        Found::At(p) => {
-            if !has_variable(k, start) {
-                return Ok(Found::At(p));
-            }
-            let rows = level(alloc, k, start)?;
-            match placed(k, rows.as_slice(), p) {
-                Ok(p) => Ok(Found::At(p)),
-                Err(_) => Err(Fault::Past),
-            }
-        }
+    if !has_variable(k, start) {
+        return Ok(p);
+    }
+    let rows = level(alloc, k, start)?;
+    match placed(k, rows.as_slice(), p) {
+        Ok(p) => Ok(p),
+        Err(Past) => Err(Fault::Past),
     }
 }
 
@@ -130,17 +133,6 @@ fn copies(alloc: Global, rows: &[Made]) -> Result<Items<Made>, Fault>
         }
     }
     Ok(all)
-}
-
-/// Without variables a contradiction is shown by its multipliers, and where there is none all rows
-/// are met where all variables are 0.
-fn found_by(contradiction: Option<[Number; PARTS]>) -> Found
-    ensures { result ≡ found_by VARIABLES contradiction }
-{
-    match contradiction {
-        Some(multipliers) => Found::Shown(multipliers),
-        None => Found::At(Point::origin()),
-    }
 }
 
 fn has_variable(k: u32, rows: &[Made]) -> bool

@@ -1,10 +1,10 @@
 -- The two forms of a right side are one language: addends until a choice, and an expression and then perhaps a choice.
 use Rattle.std.proofs.Common.{◌≡◌, Bool, true, false, ◌||◌, nat_eq, List, [], ◌∷◌, ◌++◌, Option, Some, None, refl, sym, ap, ◌∙◌, subst, append_assoc, inl, inr, ◌⊎◌}
 use Rattle.pc_grammar.specs.declared.symbol.Symbol.{Symbol}
-use Rattle.pc_grammar.specs.declared.symbol.Terminal.{Terminal}
-use Rattle.pc_grammar.specs.declared.symbol.Terminal.TheVariants as terminal
+use Rattle.pc_language.specs.declared.terminal.Terminal.{Terminal}
+use Rattle.pc_language.specs.declared.terminal.Terminal.TheVariants as terminal
 use Rattle.pc_grammar.specs.declared.tree.ExprTree.{ExprTree}
-use Rattle.pc_grammar.specs.declared.tree.Choice.{Choice}
+use Rattle.pc_language.specs.declared.choice.Choice.{Choice}
 use Rattle.pc_grammar.specs.declared.tree.RightTree.{RightTree}
 use Rattle.pc_grammar.specs.Combinators.{Text, Lang, is_both, is_map, is_either, is_maybe, is_many, Part, More, Last, is_series, in_series}
 use Rattle.pc_grammar.specs.Terminals.{code, is_one, is_one_of}

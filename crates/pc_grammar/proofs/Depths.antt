@@ -1,8 +1,8 @@
 -- Nesting takes symbols: a parser that is given more levels of nesting than a text has symbols never runs out of them.
 use Rattle.std.proofs.Common.{◌≡◌, ℕ, zero, suc, ◌+◌, ◌≤◌, Bool, true, false, cond, List, [], ◌∷◌, length, Some, None, subst, arith}
 use Rattle.pc_grammar.specs.declared.symbol.Symbol.{Symbol}
-use Rattle.pc_grammar.specs.declared.symbol.Terminal.{Terminal}
-use Rattle.pc_grammar.specs.declared.symbol.Terminal.TheVariants as terminal
+use Rattle.pc_language.specs.declared.terminal.Terminal.{Terminal}
+use Rattle.pc_language.specs.declared.terminal.Terminal.TheVariants as terminal
 use Rattle.pc_grammar.specs.declared.tree.ExprTree.{ExprTree}
 use Rattle.pc_grammar.specs.declared.tree.StmtTree.{StmtTree}
 use Rattle.pc_grammar.specs.Combinators.{Text, Parser, Class, Out, Got, Stops, Syntax, Deep, starts, token_if, token, and_then, map_out, both, map_parser, either, maybe, many_from, many, Part, More, Last, goes_on, series_from, series, shut, shut_if}

@@ -8,10 +8,10 @@ use Rattle.pc_text.specs.Lexemes.{class, is_keyword}
 use Rattle.pc_text.specs.Places.{place_of}
 use Rattle.pc_text.specs.Lex.{lex}
 use Rattle.pc_grammar.specs.declared.symbol.Symbol.{Symbol}
-use Rattle.pc_grammar.specs.declared.symbol.Terminal.TheVariants as terminal
+use Rattle.pc_language.specs.declared.terminal.Terminal.TheVariants as terminal
 use Rattle.pc_grammar.specs.declared.tree.ExprTree.TheVariants as expr_is
-use Rattle.pc_grammar.specs.declared.tree.Bound.TheVariants.{At}
-use Rattle.pc_grammar.specs.declared.tree.Op.TheVariants as op_is
+use Rattle.pc_language.specs.declared.choice.Bound.TheVariants.{At}
+use Rattle.pc_language.specs.declared.operator.Op.TheVariants as op_is
 use Rattle.pc_grammar.specs.declared.tree.TestTree.TheVariants as test_is
 use Rattle.pc_grammar.specs.declared.tree.StmtTree.{StmtTree}
 use Rattle.pc_grammar.specs.declared.tree.StmtTree.TheVariants as stmt_is

@@ -1,8 +1,8 @@
 -- The laws of expressions.
 use Rattle.std.proofs.Common.{◌≡◌, ℕ, zero, suc, true, List, [], ◌∷◌, ◌++◌, None, refl, inl, pos}
 use Rattle.pc_grammar.specs.declared.symbol.Symbol.{Symbol}
-use Rattle.pc_grammar.specs.declared.symbol.Terminal.{Terminal}
-use Rattle.pc_grammar.specs.declared.symbol.Terminal.TheVariants as terminal
+use Rattle.pc_language.specs.declared.terminal.Terminal.{Terminal}
+use Rattle.pc_language.specs.declared.terminal.Terminal.TheVariants as terminal
 use Rattle.pc_grammar.specs.declared.tree.ExprTree.{ExprTree}
 use Rattle.pc_grammar.specs.Combinators.{Text, Parser, Lang, Class, none, both, is_both}
 use Rattle.pc_grammar.specs.Terminals.{among, the, one, is_one, one_of, is_one_of}

@@ -1,9 +1,9 @@
 -- The laws of choices and right sides.
 use Rattle.std.proofs.Common.{refl}
 use Rattle.pc_grammar.specs.declared.symbol.Symbol.{Symbol}
-use Rattle.pc_grammar.specs.declared.symbol.Terminal.TheVariants as terminal
+use Rattle.pc_language.specs.declared.terminal.Terminal.TheVariants as terminal
 use Rattle.pc_grammar.specs.declared.tree.ExprTree.{ExprTree}
-use Rattle.pc_grammar.specs.declared.tree.Choice.{Choice}
+use Rattle.pc_language.specs.declared.choice.Choice.{Choice}
 use Rattle.pc_grammar.specs.declared.tree.RightTree.{RightTree}
 use Rattle.pc_grammar.specs.Combinators.{Text, Parser, Lang, none, both, map_parser, Part, More, Last, series}
 use Rattle.pc_grammar.specs.Terminals.{among, the}

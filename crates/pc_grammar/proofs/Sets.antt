@@ -2,7 +2,7 @@
 use Rattle.std.proofs.Common.{◌≡◌, Bool, true, false, not, ◌&&◌, ◌||◌, nat_eq, List, [], ◌∷◌, ◌++◌, Option, Some, None, refl, ap, ◌∙◌, inl, inr}
 use Rattle.std.proofs.lemmas.Bool.{and_parts, or_cases, not-true, eqb-true, false_from_ne_true}
 use Rattle.pc_grammar.specs.declared.symbol.Symbol.{Symbol}
-use Rattle.pc_grammar.specs.declared.symbol.Terminal.{Terminal}
+use Rattle.pc_language.specs.declared.terminal.Terminal.{Terminal}
 use Rattle.pc_grammar.specs.Combinators.{Text, Lang, Class, none, is_map, is_both, is_either, is_maybe, is_many}
 use Rattle.pc_grammar.specs.Terminals.{code, has, among, is_one_of}
 use Rattle.pc_grammar.proofs.Combinators.{Ends, Begins, begins_more}

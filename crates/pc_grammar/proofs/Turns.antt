@@ -1,11 +1,11 @@
 -- The loops of the descent, each with what it has gathered so far.
 use Rattle.std.proofs.Common.{◌≡◌, ℕ, zero, suc, ◌<◌, ◌-◌, true, false, List, [], ◌∷◌, ◌++◌, length, Some, None, refl, sym, append_assoc, append-nil, arith}
 use Rattle.pc_grammar.specs.declared.symbol.Symbol.{Symbol}
-use Rattle.pc_grammar.specs.declared.symbol.Terminal.TheVariants as terminal
+use Rattle.pc_language.specs.declared.terminal.Terminal.TheVariants as terminal
 use Rattle.pc_grammar.specs.declared.tree.ExprTree.{ExprTree}
 use Rattle.pc_grammar.specs.declared.tree.StmtTree.{StmtTree}
 use Rattle.pc_grammar.specs.declared.tree.CompareTree.{CompareTree}
-use Rattle.pc_grammar.specs.declared.tree.Choice.{Choice}
+use Rattle.pc_language.specs.declared.choice.Choice.{Choice}
 use Rattle.pc_grammar.specs.declared.tree.RightTree.{RightTree}
 use Rattle.pc_grammar.specs.declared.right.Next.TheVariants as next_is
 use Rattle.pc_grammar.specs.Next.{next_of}

@@ -2,13 +2,13 @@
 -- no "{" where BRACES are open; no sign of an expression that has SIGNS already; no "&&" where the conjunction has COMPARISONS already.
 use Rattle.std.specs.Prelude.{◌≡◌, ◌+◌, ◌-◌, ℕ, Bool, true, false, not, cond, nat_lt, List, [], ◌∷◌, ◌++◌, Option, Some, None, Result, Ok, Err}
 use Rattle.pc_grammar.specs.declared.symbol.Symbol.{Symbol}
-use Rattle.pc_grammar.specs.declared.symbol.Terminal.{Terminal}
-use Rattle.pc_grammar.specs.declared.symbol.Terminal.TheVariants as terminal
+use Rattle.pc_language.specs.declared.terminal.Terminal.{Terminal}
+use Rattle.pc_language.specs.declared.terminal.Terminal.TheVariants as terminal
 use Rattle.pc_grammar.specs.declared.fault.ParseFault.{ParseFault}
 use Rattle.pc_grammar.specs.declared.fault.ParseFault.TheVariants.{TooDeep, TooLong}
 use Rattle.pc_grammar.specs.declared.limits.Counts.{Counts}
 use Rattle.pc_grammar.specs.declared.limits.Past.{Past}
-use Rattle.pc_grammar.specs.declared.limits.TheConstants.{BRACES, SIGNS, COMPARISONS}
+use Rattle.pc_language.specs.declared.limits.TheConstants.{BRACES, SIGNS, COMPARISONS}
 use Rattle.pc_grammar.specs.Combinators.{Text, starts}
 use Rattle.pc_grammar.specs.Terminals.{the, has}
 

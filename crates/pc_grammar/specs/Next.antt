@@ -1,7 +1,7 @@
 -- What the descent says of a part of a right side.
 use Rattle.pc_grammar.specs.declared.symbol.Symbol.{Symbol}
 use Rattle.pc_grammar.specs.declared.tree.ExprTree.{ExprTree}
-use Rattle.pc_grammar.specs.declared.tree.Choice.{Choice}
+use Rattle.pc_language.specs.declared.choice.Choice.{Choice}
 use Rattle.pc_grammar.specs.declared.right.Next.{Next}
 use Rattle.pc_grammar.specs.declared.right.Next.TheVariants as next_is
 use Rattle.pc_grammar.specs.Combinators.{Part, More, Last}

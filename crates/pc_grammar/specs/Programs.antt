@@ -2,7 +2,7 @@
 --   program = "entry" "(" [ names ] ")" "{" { "var" names ";" } { stmt } "}"    names = name { "," name }
 use Rattle.std.specs.Prelude.{ℕ, List, [], ◌∷◌, ◌++◌, Option, Some, None}
 use Rattle.pc_grammar.specs.declared.symbol.Symbol.{Symbol}
-use Rattle.pc_grammar.specs.declared.symbol.Terminal.TheVariants as terminal
+use Rattle.pc_language.specs.declared.terminal.Terminal.TheVariants as terminal
 use Rattle.pc_grammar.specs.declared.tree.StmtTree.{StmtTree}
 use Rattle.pc_grammar.specs.declared.tree.ProgramTree.{ProgramTree}
 use Rattle.pc_grammar.specs.Combinators.{Text, Parser, Lang, both, is_both, map_parser, is_map, maybe, is_maybe, many, is_many}

@@ -3,12 +3,12 @@
 -- The parser takes addends until a choice, since a "+" alone does not tell which of the two follows.
 use Rattle.std.specs.Prelude.{List, Option, Some, None, ℤ, pos, negsuc, neg_ℤ}
 use Rattle.pc_grammar.specs.declared.symbol.Symbol.{Symbol}
-use Rattle.pc_grammar.specs.declared.symbol.Terminal.TheVariants as terminal
+use Rattle.pc_language.specs.declared.terminal.Terminal.TheVariants as terminal
 use Rattle.pc_grammar.specs.declared.tree.ExprTree.{ExprTree}
 use Rattle.pc_grammar.specs.declared.tree.ExprTree.TheVariants as expr_is
-use Rattle.pc_grammar.specs.declared.tree.Bound.{Bound}
-use Rattle.pc_grammar.specs.declared.tree.Bound.TheVariants as bound_is
-use Rattle.pc_grammar.specs.declared.tree.Choice.{Choice}
+use Rattle.pc_language.specs.declared.choice.Bound.{Bound}
+use Rattle.pc_language.specs.declared.choice.Bound.TheVariants as bound_is
+use Rattle.pc_language.specs.declared.choice.Choice.{Choice}
 use Rattle.pc_grammar.specs.declared.tree.RightTree.{RightTree}
 use Rattle.pc_grammar.specs.Combinators.{Parser, Lang, both, is_both, map_parser, is_map, either, is_either, maybe, is_maybe, Part, More, Last, series}
 use Rattle.pc_grammar.specs.Terminals.{among, the, one, is_one}

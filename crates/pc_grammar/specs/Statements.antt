@@ -5,11 +5,11 @@
 -- A missing "else" is an empty list, and where "try" is missing no comparisons are tried. A level of nesting is a block.
 use Rattle.std.specs.Prelude.{ℕ, zero, suc, List, [], ◌∷◌, Option, Some, None}
 use Rattle.pc_grammar.specs.declared.symbol.Symbol.{Symbol}
-use Rattle.pc_grammar.specs.declared.symbol.Terminal.{Terminal}
-use Rattle.pc_grammar.specs.declared.symbol.Terminal.TheVariants as terminal
+use Rattle.pc_language.specs.declared.terminal.Terminal.{Terminal}
+use Rattle.pc_language.specs.declared.terminal.Terminal.TheVariants as terminal
 use Rattle.pc_grammar.specs.declared.tree.ExprTree.{ExprTree}
-use Rattle.pc_grammar.specs.declared.tree.Op.{Op}
-use Rattle.pc_grammar.specs.declared.tree.Op.TheVariants as op_is
+use Rattle.pc_language.specs.declared.operator.Op.{Op}
+use Rattle.pc_language.specs.declared.operator.Op.TheVariants as op_is
 use Rattle.pc_grammar.specs.declared.tree.CompareTree.{CompareTree}
 use Rattle.pc_grammar.specs.declared.tree.TestTree.{TestTree}
 use Rattle.pc_grammar.specs.declared.tree.TestTree.TheVariants as test_is

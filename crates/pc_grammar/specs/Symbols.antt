@@ -6,8 +6,8 @@ use Rattle.pc_text.specs.declared.token.Token.{Token}
 use Rattle.pc_text.specs.Bytes.{Bytes}
 use Rattle.pc_text.specs.Places.{place_of}
 use Rattle.pc_grammar.specs.declared.symbol.Symbol.{Symbol}
-use Rattle.pc_grammar.specs.declared.symbol.Terminal.{Terminal}
-use Rattle.pc_grammar.specs.declared.symbol.Terminal.TheVariants as terminal
+use Rattle.pc_language.specs.declared.terminal.Terminal.{Terminal}
+use Rattle.pc_language.specs.declared.terminal.Terminal.TheVariants as terminal
 
 -- the terminal of a keyword's text
 unfoldable pub keyword_of : Bytes → Terminal

@@ -1,7 +1,7 @@
 -- Classes of symbols: those that stand for one of some terminals.
 use Rattle.std.specs.Prelude.{ℕ, Bool, false, ◌||◌, nat_eq, List, [], ◌∷◌}
-use Rattle.pc_grammar.specs.declared.symbol.Terminal.{Terminal}
-use Rattle.pc_grammar.specs.declared.symbol.Terminal.TheVariants as terminal
+use Rattle.pc_language.specs.declared.terminal.Terminal.{Terminal}
+use Rattle.pc_language.specs.declared.terminal.Terminal.TheVariants as terminal
 use Rattle.pc_grammar.specs.Combinators.{Parser, Lang, Class, token, is_token}
 use Rattle.pc_grammar.specs.declared.symbol.Symbol.{Symbol}
 

@@ -7,8 +7,9 @@ ghost use Rattle.pc_grammar.specs.Reads.{Reads};
 
 use crate::cursor::{Cursor, Stop};
 use crate::expr::expr;
-use crate::symbol::Terminal;
-use crate::tree::{CompareTree, Op, TestTree};
+use pc_language::Terminal;
+use crate::tree::{CompareTree, TestTree};
+use pc_language::Op;
 use sqlite_items::Items;
 use std::alloc::Global;
 

@@ -9,7 +9,8 @@ ghost use Rattle.pc_grammar.specs.Expressions.{signs};
 ghost use Rattle.pc_grammar.specs.Statements.{begins_stmt, operators};
 ghost use Rattle.pc_grammar.specs.Reads.{Reads};
 
-use crate::symbol::{Symbol, Terminal};
+use crate::symbol::Symbol;
+use pc_language::Terminal;
 use std::alloc::AllocError;
 
 /// Why the descent has no tree.

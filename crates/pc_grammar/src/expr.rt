@@ -8,7 +8,8 @@ ghost use Rattle.pc_grammar.specs.Expressions as spec;
 ghost use Rattle.pc_grammar.specs.Reads.{Reads};
 
 use crate::cursor::{Cursor, Stop};
-use crate::symbol::{Symbol, Terminal};
+use crate::symbol::Symbol;
+use pc_language::Terminal;
 use crate::tree::ExprTree;
 use sqlite_items::Boxed;
 use std::alloc::{AllocError, Global};

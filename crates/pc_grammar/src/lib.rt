@@ -22,10 +22,8 @@ mod tree;
 
 pub use fault::ParseFault;
 pub use laws::{grammar_is_unambiguous, symbols_have_one_answer};
-pub use limits::{BRACES, COMPARISONS, SIGNS};
 pub use parsing::parse;
-pub use symbol::{Symbol, Terminal};
+pub use pc_language::{BRACES, Bound, COMPARISONS, Choice, Op, SIGNS, Terminal};
+pub use symbol::Symbol;
 pub use terminals::symbols;
-pub use tree::{
-    Bound, Choice, CompareTree, ExprTree, Op, ProgramTree, RightTree, StmtTree, TestTree,
-};
+pub use tree::{CompareTree, ExprTree, ProgramTree, RightTree, StmtTree, TestTree};

@@ -7,17 +7,8 @@ ghost use Rattle.pc_grammar.specs.Terminals.{the, has};
 ghost use Rattle.pc_grammar.specs.Limits as spec;
 
 use crate::fault::ParseFault;
-use crate::symbol::{Symbol, Terminal};
-
-/// The most braces that may be open at once.
-pub const BRACES: usize = 64;
-
-/// The most signs of one expression, which is a side of a comparison or the part of a right side
-/// before its choice: its `+`, `-`, `*` and `(`. A `+` before a `[` is none of them.
-pub const SIGNS: usize = 64;
-
-/// The most comparisons of a conjunction.
-pub const COMPARISONS: usize = 8;
+use crate::symbol::Symbol;
+use pc_language::{BRACES, COMPARISONS, SIGNS, Terminal};
 
 /// What was counted in the symbols before one.
 #[derive(Clone, Copy)]

@@ -9,8 +9,10 @@ ghost use Rattle.pc_grammar.specs.Reads.{Reads};
 
 use crate::cursor::{Cursor, Stop};
 use crate::expr::{addend, binary};
-use crate::symbol::{Symbol, Terminal};
-use crate::tree::{Bound, Choice, ExprTree, RightTree};
+use crate::symbol::Symbol;
+use pc_language::Terminal;
+use pc_language::{Bound, Choice};
+use crate::tree::{ExprTree, RightTree};
 use std::alloc::Global;
 
 /// The opposite of the value of a number, which is never below 0: so it fits.

@@ -8,7 +8,7 @@ ghost use Rattle.pc_grammar.specs.Reads.{Reads};
 use crate::compare::{enclosed_all, enclosed_test, tried};
 use crate::cursor::{Cursor, Stop};
 use crate::right::right;
-use crate::symbol::Terminal;
+use pc_language::Terminal;
 use crate::tree::StmtTree;
 use sqlite_items::Items;
 use std::alloc::Global;

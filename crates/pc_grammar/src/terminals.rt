@@ -5,7 +5,8 @@ ghost use Rattle.pc_text.specs.Lexemes.{AreSpans};
 ghost use Rattle.pc_text.specs.Places.{place_of};
 ghost use Rattle.pc_grammar.specs.Symbols as spec;
 
-use crate::symbol::{Symbol, Terminal};
+use crate::symbol::Symbol;
+use pc_language::Terminal;
 use pc_text::{Kind, NoMemory, Place, Token, place_from};
 use sqlite_items::Items;
 use std::alloc::Global;

@@ -1,6 +1,7 @@
 //! Parse trees: programs as they are written, in which names are still the symbols that spell them.
 
 use crate::symbol::Symbol;
+use pc_language::{Choice, Op};
 use pc_text::Place;
 use sqlite_items::{Boxed, Items};
 
@@ -19,17 +20,6 @@ pub enum ExprTree {
     Mul(Boxed<ExprTree>, Boxed<ExprTree>, Place),
 }
 
-/// What a comparison asks of its two sides.
-#[derive(Clone, Copy, Debug, PartialEq, Eq)]
-pub enum Op {
-    Less,
-    AtMost,
-    Greater,
-    AtLeast,
-    Equal,
-    Unequal,
-}
-
 /// A comparison. The place is that of the operator.
 #[derive(Drop)]
 pub struct CompareTree {
@@ -46,22 +36,6 @@ pub enum TestTree {
     Any,
     /// A conjunction of one to [`COMPARISONS`](crate::COMPARISONS) comparisons, in order.
     All(Items<CompareTree>),
-}
-
-/// An end of the interval of a choice.
-#[derive(Clone, Copy, Debug, PartialEq, Eq)]
-pub enum Bound {
-    /// A number, with its sign.
-    At(i128),
-}
-
-/// A choice of an integer from `lo` to `hi`, both included; whether there is one is not tested
-/// here. The place is that of `[`.
-#[derive(Clone, Copy, Debug, PartialEq, Eq)]
-pub struct Choice {
-    pub lo: Bound,
-    pub hi: Bound,
-    pub place: Place,
 }
 
 /// The right side of an assignment: an expression, and perhaps a choice that is added to it. A

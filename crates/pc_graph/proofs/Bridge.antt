@@ -6,23 +6,22 @@ use Rattle.pc_text.specs.declared.place.Place.{Place}
 use Rattle.pc_rows.specs.Linear.{zero_from}
 use Rattle.pc_rows.proofs.First.{zero_from_entry}
 use Rattle.pc_rows.specs.declared.row.TheConstants.{VARIABLES}
-use Rattle.pc_syntax.specs.declared.limits.TheConstants.{EDGES}
-use Rattle.pc_syntax.specs.Machine.{Outcome, Going, Violated, Blocked, Ended, step, next, run, run_of, started, Safe}
+use Rattle.pc_language.specs.declared.limits.TheConstants.{EDGES}
+use Rattle.pc_program.specs.Machine.{Outcome, Going, Violated, Blocked, Ended, step, next, run, run_of, started, Safe}
 use Rattle.pc_text.specs.Named.{locals}
-use Rattle.pc_syntax.specs.Sane.{sane_stmts, edges_of}
-use Rattle.pc_syntax.specs.Values.{State}
-use Rattle.pc_syntax.specs.declared.program.Program.{Program}
-use Rattle.pc_syntax.specs.declared.tree.Stmt.{Stmt}
-use Rattle.pc_syntax.proofs.Results.{and_is}
-use Rattle.pc_syntax.proofs.Stmts.{by_stmt}
-use Rattle.pc_syntax.proofs.Trees.{all_by}
-use Rattle.pc_graph.specs.Arc.{Enter, Test, Arc, arc}
+use Rattle.pc_program.specs.Sane.{sane_stmts, edges_of}
+use Rattle.pc_rows.specs.Linear.{State}
+use Rattle.pc_program.specs.declared.program.Program.{Program}
+use Rattle.pc_program.specs.declared.tree.Stmt.{Stmt}
+use Rattle.pc_program.proofs.Results.{and_is}
+use Rattle.pc_program.proofs.Stmts.{by_stmt, all_by}
+use Rattle.pc_flow.specs.Arc.{Enter, Test, Arc, arc}
 use Rattle.pc_graph.specs.Corresponds.{IsNoStep, IsStep, RunsHaveWalks, WalksHaveRuns, SameSteps, StepsCorrespond}
-use Rattle.pc_graph.specs.Lists.{In}
+use Rattle.pc_flow.specs.Lists.{In}
 use Rattle.pc_graph.specs.Lowering.{graph, made, no_steps}
 use Rattle.pc_graph.specs.Rest.{rest, rests_of}
-use Rattle.pc_graph.specs.Walk.{Pass, Keeps, Walks, Walk, GraphSafe}
-use Rattle.pc_graph.proofs.Lists.{each_at, each_in, each_more}
+use Rattle.pc_flow.specs.Walk.{Pass, Keeps, Walks, Walk, GraphSafe}
+use Rattle.pc_flow.proofs.Lists.{each_at, each_in, each_more}
 use Rattle.pc_graph.proofs.Rules.{TiesOne, list_ties, set_ties, if_ties, while_ties, check_ties, assume_ties}
 use Rattle.pc_graph.proofs.Tied.{Holds, ArcOk, Fired, Fires, Simulates, fires, joins, Tied}
 

@@ -4,19 +4,18 @@ use Rattle.std.specs.Prelude.{sum}
 use Rattle.std.specs.List.{AllByRecursion as Each}
 use Rattle.std.proofs.lemmas.List.Sums.{sum_by-cons}
 use Rattle.pc_text.specs.declared.place.Place.{Place}
-use Rattle.pc_grammar.specs.declared.tree.Op.{Op}
-use Rattle.pc_grammar.specs.declared.tree.Op.TheVariants as op
+use Rattle.pc_language.specs.declared.operator.Op.{Op}
+use Rattle.pc_language.specs.declared.operator.Op.TheVariants as op
 use Rattle.pc_rows.specs.Linear.{Linear}
-use Rattle.pc_syntax.specs.Forms.{form, rows_by, rows_of, rows_all}
-use Rattle.pc_syntax.specs.Sane.{is_either, rows_in, test_edges, edges_step, edges}
-use Rattle.pc_syntax.specs.declared.tree.Compare.{Compare}
-use Rattle.pc_syntax.specs.declared.tree.Test.{Test as Condition}
-use Rattle.pc_syntax.specs.declared.tree.Test.TheVariants as test
-use Rattle.pc_syntax.specs.declared.tree.Stmt.{Stmt, fold-roll-Stmt}
-use Rattle.pc_syntax.specs.declared.tree.Stmt.TheOpen as stmt
-use Rattle.pc_syntax.proofs.Stmts.{by_stmt}
-use Rattle.pc_syntax.proofs.Trees.{all_by}
-use Rattle.pc_graph.specs.Arc.{Test, Check, arc}
+use Rattle.pc_program.specs.Forms.{form, rows_by, rows_of, rows_all}
+use Rattle.pc_program.specs.Sane.{is_either, rows_in, test_edges, edges_step, edges}
+use Rattle.pc_program.specs.declared.tree.Compare.{Compare}
+use Rattle.pc_program.specs.declared.tree.Test.{Test as Condition}
+use Rattle.pc_program.specs.declared.tree.Test.TheVariants as test
+use Rattle.pc_program.specs.declared.tree.Stmt.{Stmt, fold-roll-Stmt}
+use Rattle.pc_program.specs.declared.tree.Stmt.TheOpen as stmt
+use Rattle.pc_program.proofs.Stmts.{by_stmt, all_by}
+use Rattle.pc_flow.specs.Arc.{Test, Check, arc}
 use Rattle.pc_graph.specs.Lowering.{Rule, one, tests, join_edges, assigned, rule, rule_step, rules}
 use Rattle.pc_graph.specs.Ways.{is_lone, apart, ways_of, ways}
 use Rattle.pc_graph.proofs.Unrolled.{rule-if, rule-while}

@@ -5,15 +5,15 @@ use Rattle.std.specs.List.{list_all}
 use Rattle.pc_text.specs.declared.place.Place.{Place}
 use Rattle.pc_rows.specs.Linear.{Linear, negation}
 use Rattle.pc_rows.proofs.Adding.{drop_at, drop_got}
-use Rattle.pc_syntax.specs.Forms.{row_fits, rows_all}
-use Rattle.pc_syntax.specs.Sane.{sane_stmt, sane_stmts}
-use Rattle.pc_syntax.specs.declared.tree.Compare.{Compare}
-use Rattle.pc_syntax.specs.declared.tree.Test.{Test as Condition}
-use Rattle.pc_syntax.specs.declared.tree.Stmt.{Stmt}
-use Rattle.pc_syntax.specs.declared.tree.Stmt.TheVariants.{If, While, rolls-If, rolls-While}
-use Rattle.pc_syntax.specs.declared.tree.Stmt.TheOpen as stmt
-use Rattle.pc_syntax.proofs.Results.{and_is}
-use Rattle.pc_graph.specs.Arc.{Test, arc}
+use Rattle.pc_program.specs.Forms.{row_fits, rows_all}
+use Rattle.pc_program.specs.Sane.{sane_stmt, sane_stmts}
+use Rattle.pc_program.specs.declared.tree.Compare.{Compare}
+use Rattle.pc_program.specs.declared.tree.Test.{Test as Condition}
+use Rattle.pc_program.specs.declared.tree.Stmt.{Stmt}
+use Rattle.pc_program.specs.declared.tree.Stmt.TheVariants.{If, While, rolls-If, rolls-While}
+use Rattle.pc_program.specs.declared.tree.Stmt.TheOpen as stmt
+use Rattle.pc_program.proofs.Results.{and_is}
+use Rattle.pc_flow.specs.Arc.{Test, arc}
 use Rattle.pc_graph.specs.Drawn.{Drawn, extended, with_edge, with_tests, branched, joined_at, turned, headed}
 use Rattle.pc_graph.specs.Lowering.{rule, rule_step, rules}
 use Rattle.pc_graph.specs.Ways.{apart, ways}

@@ -7,20 +7,20 @@ use Rattle.std.proofs.lemmas.Bool.{or_from, leb-true}
 use Rattle.pc_text.specs.declared.place.Place.{Place}
 use Rattle.pc_rows.specs.declared.row.TheConstants.{VARIABLES}
 use Rattle.pc_rows.specs.Linear.{IsOver}
-use Rattle.pc_syntax.specs.declared.limits.TheConstants.{EDGES}
-use Rattle.pc_syntax.specs.declared.program.Program.{Program}
-use Rattle.pc_syntax.specs.declared.tree.Stmt.{Stmt}
-use Rattle.pc_syntax.specs.Sane.{sane_stmts, edges, edges_of}
-use Rattle.pc_syntax.proofs.Results.{and_is}
+use Rattle.pc_language.specs.declared.limits.TheConstants.{EDGES}
+use Rattle.pc_program.specs.declared.program.Program.{Program}
+use Rattle.pc_program.specs.declared.tree.Stmt.{Stmt}
+use Rattle.pc_program.specs.Sane.{sane_stmts, edges, edges_of}
+use Rattle.pc_program.proofs.Results.{and_is}
 use Rattle.pc_graph.specs.declared.draft.Loop.{Loop}
-use Rattle.pc_graph.specs.declared.point.PointInfo.{PointInfo}
-use Rattle.pc_graph.specs.Arc.{Arc}
+use Rattle.pc_flow.specs.declared.point.PointInfo.{PointInfo}
+use Rattle.pc_flow.specs.Arc.{Arc}
 use Rattle.pc_graph.specs.Drawn.{Drawn, extended, entered}
-use Rattle.pc_graph.specs.Flow.{Flow}
+use Rattle.pc_flow.specs.Flow.{Flow}
 use Rattle.pc_graph.specs.Lowering.{rules, made, graph, points_from}
-use Rattle.pc_graph.specs.Shape.{IsHead, LeadsUp, IsGraph}
+use Rattle.pc_flow.specs.Shape.{IsHead, LeadsUp, IsGraph}
 use Rattle.pc_graph.proofs.Counts.{all_counted}
-use Rattle.pc_graph.proofs.Lists.{each_more, each_in}
+use Rattle.pc_flow.proofs.Lists.{each_more, each_in}
 use Rattle.pc_graph.proofs.Shapes.{HeadIn, IsUp, IsLoop, Shaped, all_shaped}
 use Rattle.pc_graph.proofs.Variables.{points_over}
 

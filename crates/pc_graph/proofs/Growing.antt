@@ -2,14 +2,13 @@
 use Rattle.std.proofs.Common.{◌≡◌, ℕ, ◌+◌, ◌≤◌, List, [], ◌∷◌, sym, subst, arith, map}
 use Rattle.std.specs.List.{AllByRecursion as Each}
 use Rattle.pc_text.specs.declared.place.Place.{Place}
-use Rattle.pc_syntax.specs.Forms.{rows_all}
-use Rattle.pc_syntax.specs.declared.tree.Compare.{Compare}
-use Rattle.pc_syntax.specs.declared.tree.Test.{Test as Condition}
-use Rattle.pc_syntax.specs.declared.tree.Stmt.{Stmt, fold-roll-Stmt}
-use Rattle.pc_syntax.specs.declared.tree.Stmt.TheOpen as stmt
-use Rattle.pc_syntax.proofs.Stmts.{by_stmt}
-use Rattle.pc_syntax.proofs.Trees.{all_by}
-use Rattle.pc_graph.specs.Arc.{Test, Check}
+use Rattle.pc_program.specs.Forms.{rows_all}
+use Rattle.pc_program.specs.declared.tree.Compare.{Compare}
+use Rattle.pc_program.specs.declared.tree.Test.{Test as Condition}
+use Rattle.pc_program.specs.declared.tree.Stmt.{Stmt, fold-roll-Stmt}
+use Rattle.pc_program.specs.declared.tree.Stmt.TheOpen as stmt
+use Rattle.pc_program.proofs.Stmts.{by_stmt, all_by}
+use Rattle.pc_flow.specs.Arc.{Test, Check}
 use Rattle.pc_graph.specs.Lowering.{Rule, one, assigned, rule, rule_step, rules}
 use Rattle.pc_graph.proofs.Unrolled.{rule-if, rule-while}
 

@@ -1,13 +1,9 @@
-pub mod Lists
 pub mod TestWays
 pub mod Unrolled
 pub mod Tied
 pub mod Pieces
 pub mod Rules
 pub mod Bridge
-pub mod Carrying
-pub mod Closed
-pub mod Witness
 pub mod Ready
 pub mod Growing
 pub mod Drawing
@@ -17,8 +13,8 @@ pub mod Limits
 pub mod Shapes
 pub mod Counts
 pub mod Graphs
-pub mod Entries
 pub mod Turns
 pub mod Straights
 pub mod Programs
 pub mod LoopFree
+pub mod StraightLoops

@@ -2,21 +2,21 @@
 use Rattle.std.proofs.Common.{◌≡◌, ℕ, ◌+◌, ◌<◌, ◌≤◌, pos, List, [], ◌∷◌, length, Bool, true, false, refl, arith, int_le}
 use Rattle.std.specs.Prelude.{◌&&◌, Option, Some, None}
 use Rattle.std.specs.List.{AllByRecursion as Each}
-use Rattle.pc_grammar.specs.declared.tree.Bound.{Bound}
-use Rattle.pc_grammar.specs.declared.tree.Bound.TheVariants as bound
-use Rattle.pc_grammar.specs.declared.tree.Choice.{Choice}
+use Rattle.pc_language.specs.declared.choice.Bound.{Bound}
+use Rattle.pc_language.specs.declared.choice.Bound.TheVariants as bound
+use Rattle.pc_language.specs.declared.choice.Choice.{Choice}
 use Rattle.pc_rows.specs.Linear.{Linear, IsOver, in_range}
 use Rattle.pc_rows.specs.declared.row.TheConstants.{VARIABLES}
 use Rattle.pc_rows.proofs.Ranges.{is_in}
 use Rattle.pc_rows.proofs.Joining.{le_is}
-use Rattle.pc_syntax.specs.Forms.{form, is_affine, rows_all}
-use Rattle.pc_syntax.specs.Sane.{sane_test, sane_right, sane_expr, names_below, sane_choice, in_order}
-use Rattle.pc_syntax.specs.declared.tree.Right.{Right}
-use Rattle.pc_syntax.specs.declared.tree.Test.{Test as Condition}
-use Rattle.pc_syntax.specs.declared.tree.Test.TheVariants as test
-use Rattle.pc_syntax.proofs.Results.{and_is}
-use Rattle.pc_graph.specs.declared.what.TheConstants.{TEST_ROWS}
-use Rattle.pc_graph.specs.Arc.{IsFit, BoundsFit}
+use Rattle.pc_program.specs.Forms.{form, is_affine, rows_all}
+use Rattle.pc_program.specs.Sane.{sane_test, sane_right, sane_expr, names_below, sane_choice, in_order}
+use Rattle.pc_program.specs.declared.tree.Right.{Right}
+use Rattle.pc_program.specs.declared.tree.Test.{Test as Condition}
+use Rattle.pc_program.specs.declared.tree.Test.TheVariants as test
+use Rattle.pc_program.proofs.Results.{and_is}
+use Rattle.pc_flow.specs.declared.what.TheConstants.{TEST_ROWS}
+use Rattle.pc_flow.specs.Arc.{IsFit, BoundsFit}
 use Rattle.pc_graph.specs.Lowering.{low_end, high_end, assigned}
 use Rattle.pc_graph.specs.Ways.{is_lone, apart, ways_of, ways}
 use Rattle.pc_graph.proofs.Ready.{ready_few, test_ready}

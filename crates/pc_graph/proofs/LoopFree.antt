@@ -2,19 +2,18 @@
 use Rattle.std.proofs.Common.{◌≡◌, ℕ, ◌+◌, List, [], ◌∷◌, ◌++◌, refl, sym, subst, map, false}
 use Rattle.std.specs.List.{AllByRecursion as Each}
 use Rattle.pc_text.specs.declared.place.Place.{Place}
-use Rattle.pc_syntax.specs.Forms.{rows_all}
-use Rattle.pc_syntax.specs.Loops.{whiles, whiles_step, whiles_of}
-use Rattle.pc_syntax.specs.declared.tree.Test.{Test as Condition}
-use Rattle.pc_syntax.specs.declared.tree.Stmt.{Stmt, fold-roll-Stmt}
-use Rattle.pc_syntax.specs.declared.tree.Stmt.TheOpen as stmt
-use Rattle.pc_syntax.proofs.Stmts.{by_stmt}
-use Rattle.pc_syntax.proofs.Trees.{all_by}
+use Rattle.pc_program.specs.Forms.{rows_all}
+use Rattle.pc_program.specs.Loops.{whiles, whiles_step, whiles_of}
+use Rattle.pc_program.specs.declared.tree.Test.{Test as Condition}
+use Rattle.pc_program.specs.declared.tree.Stmt.{Stmt, fold-roll-Stmt}
+use Rattle.pc_program.specs.declared.tree.Stmt.TheOpen as stmt
+use Rattle.pc_program.proofs.Stmts.{by_stmt, all_by}
 use Rattle.pc_graph.specs.declared.draft.Loop.{Loop}
-use Rattle.pc_graph.specs.Arc.{Test, Check}
+use Rattle.pc_flow.specs.Arc.{Test, Check}
 use Rattle.pc_graph.specs.Lowering.{Rule, one, assigned, rule, rule_step, rules, made, points_from}
 use Rattle.pc_graph.specs.Straight.{LoopFreeGraphs}
 use Rattle.pc_graph.proofs.Unrolled.{rule-if}
-use Rattle.pc_graph.proofs.Lists.{none_joined}
+use Rattle.pc_flow.proofs.Lists.{none_joined}
 
 -- what has no place of a loop makes no loop
 abbrev Free : List Place → Rule → Type 0

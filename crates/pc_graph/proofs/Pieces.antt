@@ -4,14 +4,14 @@ use Rattle.std.specs.Prelude.{◌⊎◌}
 use Rattle.std.specs.List.{AllByRecursion as Each}
 use Rattle.pc_text.specs.declared.place.Place.{Place}
 use Rattle.pc_rows.specs.Linear.{Linear, MeetsAll}
-use Rattle.pc_syntax.specs.Machine.{Going, Violated, step}
-use Rattle.pc_syntax.specs.Values.{State}
-use Rattle.pc_syntax.specs.declared.tree.Stmt.{Stmt}
-use Rattle.pc_graph.specs.Arc.{What, Test, Arc, arc}
+use Rattle.pc_program.specs.Machine.{Going, Violated, step}
+use Rattle.pc_rows.specs.Linear.{State}
+use Rattle.pc_program.specs.declared.tree.Stmt.{Stmt}
+use Rattle.pc_flow.specs.Arc.{What, Test, Arc, arc}
 use Rattle.pc_graph.specs.Corresponds.{IsNoStep}
-use Rattle.pc_graph.specs.Lists.{AnyOf, In}
+use Rattle.pc_flow.specs.Lists.{AnyOf, In}
 use Rattle.pc_graph.specs.Lowering.{tests, one}
-use Rattle.pc_graph.specs.Walk.{Pass, Keeps}
+use Rattle.pc_flow.specs.Walk.{Pass, Keeps}
 use Rattle.pc_graph.proofs.Tied.{Holds, ArcOk, Fired, Simulates, fires, Tied}
 
 pub holds_left : (ρ : ℕ → List Stmt) (n : ℕ) (xs ys : List (List Stmt)) → Holds ρ n (xs ++ ys) → Holds ρ n xs

@@ -2,16 +2,16 @@
 use Rattle.std.proofs.Common.{◌≡◌, ◌-◌, pos, length, ◌∙◌, arith, length-append}
 use Rattle.std.specs.Prelude.{replicate}
 use Rattle.std.proofs.lemmas.List.{length-replicate}
-use Rattle.pc_syntax.specs.declared.program.Program.{Program}
-use Rattle.pc_syntax.specs.Values.{State}
+use Rattle.pc_program.specs.declared.program.Program.{Program}
+use Rattle.pc_rows.specs.Linear.{State}
 use Rattle.pc_graph.specs.Lowering.{graph}
 use Rattle.pc_graph.specs.Straight.{PaidProgramsAreSafe, OwedIsViolated}
-use Rattle.pc_graph.specs.Walk.{IsEntry, entered}
+use Rattle.pc_flow.specs.Walk.{IsEntry, entered}
 use Rattle.pc_graph.proofs.Bridge.{steps_correspond}
-use Rattle.pc_graph.proofs.Closed.{paid_is_safe}
+use Rattle.pc_flow.proofs.Closed.{paid_is_safe}
 use Rattle.pc_graph.proofs.Graphs.{keeps}
 use Rattle.pc_graph.proofs.Straights.{straight_graphs}
-use Rattle.pc_graph.proofs.Witness.{broken_has_walk}
+use Rattle.pc_flow.proofs.Witness.{broken_has_walk}
 
 -- the state at the entry has a value for each variable
 entered_long : (p : Program) (s : State) → IsEntry (graph p) s → length (entered (graph p) s) ≡ (graph p).variables

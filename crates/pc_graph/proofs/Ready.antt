@@ -4,20 +4,20 @@ use Rattle.std.specs.Prelude.{◌&&◌, not, nat_le}
 use Rattle.std.specs.List.{list_all}
 use Rattle.std.proofs.lemmas.Bool.{leb-true}
 use Rattle.pc_text.specs.declared.place.Place.{Place}
-use Rattle.pc_grammar.specs.declared.tree.Op.{Op}
-use Rattle.pc_grammar.specs.declared.tree.Op.TheVariants as op
+use Rattle.pc_language.specs.declared.operator.Op.{Op}
+use Rattle.pc_language.specs.declared.operator.Op.TheVariants as op
 use Rattle.pc_rows.specs.Linear.{Linear}
-use Rattle.pc_grammar.specs.declared.limits.TheConstants.{COMPARISONS}
-use Rattle.pc_syntax.specs.Forms.{is_unequal, has_rows, row_fits, rows_by, rows_of, rows_all, form}
-use Rattle.pc_syntax.specs.Sane.{sane_expr, sane_compare, sane_each, sane_all, sane_test, sane_step, sane_stmt, sane_stmts, has_sane_rows}
-use Rattle.pc_syntax.specs.declared.tree.Compare.{Compare}
-use Rattle.pc_syntax.specs.declared.tree.Test.{Test}
-use Rattle.pc_syntax.specs.declared.tree.Test.TheVariants as test
-use Rattle.pc_syntax.specs.declared.tree.Stmt.{Stmt, fold-roll-Stmt}
-use Rattle.pc_syntax.specs.declared.tree.Stmt.TheVariants.{If, While, Assert, Assume, rolls-If, rolls-While, rolls-Assert, rolls-Assume}
-use Rattle.pc_syntax.specs.declared.tree.Stmt.TheOpen as stmt
-use Rattle.pc_syntax.proofs.Results.{and_is, and_of}
-use Rattle.pc_graph.specs.declared.what.TheConstants.{TEST_ROWS}
+use Rattle.pc_language.specs.declared.limits.TheConstants.{COMPARISONS}
+use Rattle.pc_program.specs.Forms.{is_unequal, has_rows, row_fits, rows_by, rows_of, rows_all, form}
+use Rattle.pc_program.specs.Sane.{sane_expr, sane_compare, sane_each, sane_all, sane_test, sane_step, sane_stmt, sane_stmts, has_sane_rows}
+use Rattle.pc_program.specs.declared.tree.Compare.{Compare}
+use Rattle.pc_program.specs.declared.tree.Test.{Test}
+use Rattle.pc_program.specs.declared.tree.Test.TheVariants as test
+use Rattle.pc_program.specs.declared.tree.Stmt.{Stmt, fold-roll-Stmt}
+use Rattle.pc_program.specs.declared.tree.Stmt.TheVariants.{If, While, Assert, Assume, rolls-If, rolls-While, rolls-Assert, rolls-Assume}
+use Rattle.pc_program.specs.declared.tree.Stmt.TheOpen as stmt
+use Rattle.pc_program.proofs.Results.{and_is, and_of}
+use Rattle.pc_flow.specs.declared.what.TheConstants.{TEST_ROWS}
 use Rattle.pc_graph.proofs.TestWays.{rows_found}
 use Rattle.pc_graph.proofs.Unrolled.{sane-if, sane-while}
 

@@ -4,32 +4,34 @@ use Rattle.std.specs.Prelude.{◌⊎◌, ◌&&◌, slice_set, nat_lt, Option, So
 use Rattle.std.specs.List.{AllByRecursion as Each}
 use Rattle.std.proofs.lemmas.Int.{ints}
 use Rattle.pc_text.specs.declared.place.Place.{Place}
-use Rattle.pc_grammar.specs.declared.tree.Bound.{Bound}
-use Rattle.pc_grammar.specs.declared.tree.Bound.TheVariants as bound
-use Rattle.pc_grammar.specs.declared.tree.Choice.{Choice}
+use Rattle.pc_language.specs.declared.choice.Bound.{Bound}
+use Rattle.pc_language.specs.declared.choice.Bound.TheVariants as bound
+use Rattle.pc_language.specs.declared.choice.Choice.{Choice}
 use Rattle.pc_rows.specs.Linear.{value, MeetsAll}
-use Rattle.pc_syntax.specs.Forms.{form, rows_all}
-use Rattle.pc_syntax.specs.Machine.{Going, Violated, Blocked, step, end_of, clamped, drawn}
+use Rattle.pc_program.specs.Forms.{form, rows_all}
+use Rattle.pc_program.specs.Machine.{Going, Violated, Blocked, step, clamped, drawn}
+use Rattle.pc_language.specs.Ends.{end_of}
 use Rattle.pc_rows.specs.Linear.{in_range}
 use Rattle.pc_rows.proofs.Joining.{each_left, each_right, each_join}
-use Rattle.pc_syntax.specs.Forms.{is_affine}
-use Rattle.pc_syntax.specs.Sane.{sane_stmt, sane_step, sane_stmts, sane_test, sane_each, sane_all, sane_right, sane_expr, sane_choice, in_order, names_below}
-use Rattle.pc_syntax.specs.Values.{State, value_of, all_hold, chosen}
-use Rattle.pc_syntax.specs.declared.tree.Compare.{Compare}
-use Rattle.pc_syntax.specs.declared.tree.Right.{Right}
-use Rattle.pc_syntax.specs.declared.tree.Test.{Test as Condition}
-use Rattle.pc_syntax.specs.declared.tree.Stmt.{Stmt, roll-Stmt, fold-roll-Stmt}
-use Rattle.pc_syntax.specs.declared.tree.Stmt.TheOpen as stmt
-use Rattle.pc_graph.specs.Arc.{Test, Check, Arc, arc}
+use Rattle.pc_program.specs.Forms.{is_affine}
+use Rattle.pc_program.specs.Sane.{sane_stmt, sane_step, sane_stmts, sane_test, sane_each, sane_all, sane_right, sane_expr, sane_choice, in_order, names_below}
+use Rattle.pc_program.specs.Values.{value_of, all_hold, chosen}
+use Rattle.pc_rows.specs.Linear.{State}
+use Rattle.pc_program.specs.declared.tree.Compare.{Compare}
+use Rattle.pc_program.specs.declared.tree.Right.{Right}
+use Rattle.pc_program.specs.declared.tree.Test.{Test as Condition}
+use Rattle.pc_program.specs.declared.tree.Stmt.{Stmt, roll-Stmt, fold-roll-Stmt}
+use Rattle.pc_program.specs.declared.tree.Stmt.TheOpen as stmt
+use Rattle.pc_flow.specs.Arc.{Test, Check, Arc, arc}
 use Rattle.pc_graph.specs.Corresponds.{IsNoStep}
-use Rattle.pc_graph.specs.Lists.{In}
+use Rattle.pc_flow.specs.Lists.{In}
 use Rattle.pc_graph.specs.Lowering.{Piece, Rule, one, tests, join_edges, split, loop, low_end, high_end, assigned, rule, rule_step, rules}
 use Rattle.pc_graph.specs.Rest.{rests, rests_of}
-use Rattle.pc_graph.specs.Walk.{Pass}
+use Rattle.pc_flow.specs.Walk.{Pass}
 use Rattle.pc_graph.specs.Ways.{ways}
-use Rattle.pc_syntax.proofs.FormLemmas.{forms_are_right}
-use Rattle.pc_syntax.proofs.Results.{and_is}
-use Rattle.pc_graph.proofs.Lists.{each_more}
+use Rattle.pc_program.proofs.FormLemmas.{forms_are_right}
+use Rattle.pc_program.proofs.Results.{and_is}
+use Rattle.pc_flow.proofs.Lists.{each_more}
 use Rattle.pc_graph.proofs.TestWays.{ways_sound, ways_complete, holds_meets, meets_holds}
 use Rattle.pc_graph.proofs.Tied.{Holds, ArcOk, Fired, Simulates, joins, Tied}
 use Rattle.pc_graph.proofs.Unrolled.{step-set, step-if, step-while, step-assert, step-assume, rule-if, rule-while, sane-if, sane-while, rests-if, rests-while, rests-set, rests-assert, rests-assume}

@@ -8,21 +8,20 @@ use Rattle.pc_text.specs.declared.place.Place.{Place}
 use Rattle.pc_rows.specs.Linear.{Linear, IsOver}
 use Rattle.pc_rows.specs.declared.row.TheConstants.{VARIABLES}
 use Rattle.pc_rows.proofs.Joining.{each_left, each_right, each_join}
-use Rattle.pc_syntax.specs.Forms.{rows_all}
-use Rattle.pc_syntax.specs.Sane.{sane_stmt, sane_step, sane_stmts, sane_test, sane_each, sane_all, sane_right}
-use Rattle.pc_syntax.specs.declared.tree.Compare.{Compare}
-use Rattle.pc_syntax.specs.declared.tree.Test.{Test as Condition}
-use Rattle.pc_syntax.specs.declared.tree.Stmt.{Stmt, fold-roll-Stmt}
-use Rattle.pc_syntax.specs.declared.tree.Stmt.TheOpen as stmt
-use Rattle.pc_syntax.proofs.Results.{and_is}
-use Rattle.pc_syntax.proofs.Stmts.{by_stmt}
-use Rattle.pc_syntax.proofs.Trees.{all_by}
+use Rattle.pc_program.specs.Forms.{rows_all}
+use Rattle.pc_program.specs.Sane.{sane_stmt, sane_step, sane_stmts, sane_test, sane_each, sane_all, sane_right}
+use Rattle.pc_program.specs.declared.tree.Compare.{Compare}
+use Rattle.pc_program.specs.declared.tree.Test.{Test as Condition}
+use Rattle.pc_program.specs.declared.tree.Stmt.{Stmt, fold-roll-Stmt}
+use Rattle.pc_program.specs.declared.tree.Stmt.TheOpen as stmt
+use Rattle.pc_program.proofs.Results.{and_is}
+use Rattle.pc_program.proofs.Stmts.{by_stmt, all_by}
 use Rattle.pc_graph.specs.declared.draft.Loop.{Loop}
-use Rattle.pc_graph.specs.declared.what.TheConstants.{TEST_ROWS}
-use Rattle.pc_graph.specs.Arc.{What, Test, Check, Arc, arc, IsFit}
-use Rattle.pc_graph.specs.Lists.{In}
+use Rattle.pc_flow.specs.declared.what.TheConstants.{TEST_ROWS}
+use Rattle.pc_flow.specs.Arc.{What, Test, Check, Arc, arc, IsFit}
+use Rattle.pc_flow.specs.Lists.{In}
 use Rattle.pc_graph.specs.Lowering.{Piece, Rule, one, tests, all_alike, join_edges, assigned, rule, rule_step, rules}
-use Rattle.pc_graph.specs.Shape.{WhatIsOver}
+use Rattle.pc_flow.specs.Shape.{WhatIsOver}
 use Rattle.pc_graph.specs.Ways.{ways}
 use Rattle.pc_graph.proofs.Limits.{ways_few, test_has, assigned_fits, right_over}
 use Rattle.pc_graph.proofs.Ready.{ready_few, all_ready}

@@ -4,27 +4,27 @@ use Rattle.std.specs.Prelude.{◌⊎◌, ◌&&◌}
 use Rattle.std.specs.List.{AllByRecursion as Each}
 use Rattle.pc_text.specs.declared.place.Place.{Place}
 use Rattle.pc_rows.proofs.Joining.{each_join}
-use Rattle.pc_syntax.specs.Forms.{rows_all}
-use Rattle.pc_syntax.specs.Values.{State}
-use Rattle.pc_syntax.specs.declared.tree.Test.{Test as Condition}
-use Rattle.pc_syntax.specs.declared.tree.Test.TheVariants as test
-use Rattle.pc_syntax.specs.declared.tree.Stmt.{Stmt, fold-roll-Stmt}
-use Rattle.pc_syntax.specs.declared.tree.Stmt.TheOpen as stmt
-use Rattle.pc_syntax.proofs.Results.{and_is}
-use Rattle.pc_syntax.proofs.Stmts.{by_stmt}
-use Rattle.pc_syntax.proofs.Trees.{all_by}
+use Rattle.pc_program.specs.Forms.{rows_all}
+use Rattle.pc_rows.specs.Linear.{State}
+use Rattle.pc_program.specs.declared.tree.Test.{Test as Condition}
+use Rattle.pc_program.specs.declared.tree.Test.TheVariants as test
+use Rattle.pc_program.specs.declared.tree.Stmt.{Stmt, fold-roll-Stmt}
+use Rattle.pc_program.specs.declared.tree.Stmt.TheOpen as stmt
+use Rattle.pc_program.proofs.Results.{and_is}
+use Rattle.pc_program.proofs.Stmts.{by_stmt, all_by}
 use Rattle.pc_graph.specs.declared.draft.Loop.{Loop}
-use Rattle.pc_graph.specs.Arc.{What, Enter, Test, Set, Check, Arc}
-use Rattle.pc_graph.specs.Carry.{HasVariable}
-use Rattle.pc_graph.specs.Exact.{NoRows, StraightEdge}
-use Rattle.pc_graph.specs.Lists.{In}
+use Rattle.pc_flow.specs.Arc.{What, Enter, Test, Set, Check, Arc}
+use Rattle.pc_flow.specs.Carry.{HasVariable}
+use Rattle.pc_flow.proofs.Assigning.{has_variable}
+use Rattle.pc_flow.specs.Exact.{NoRows, StraightEdge}
+use Rattle.pc_flow.specs.Lists.{In}
 use Rattle.pc_graph.specs.Lowering.{Piece, Rule, one, join_edges, assigned, rule, rule_step, rules, made, graph}
-use Rattle.pc_graph.specs.Shape.{WhatIsOver}
+use Rattle.pc_flow.specs.Shape.{WhatIsOver}
 use Rattle.pc_graph.specs.Straight.{is_any, straight_step, is_straight, are_straight, StraightGraphs}
 use Rattle.pc_graph.proofs.Graphs.{keeps, made_shape, points-length}
 use Rattle.pc_graph.proofs.Shapes.{HeadIn, IsUp}
 use Rattle.pc_graph.proofs.Unrolled.{rule-if}
-use Rattle.pc_graph.proofs.Lists.{none_joined}
+use Rattle.pc_flow.proofs.Lists.{none_joined}
 
 -- no loop, and no edge with rows to pass
 record Plain (a : Piece) : Type 0 where
@@ -78,13 +78,6 @@ plain x = by_stmt PlainOne
 
 all_plain : (ss : List Stmt) → PlainBy (are_straight ss) (rules ss)
 all_plain ss = list_plain ss (all_by PlainOne plain ss)
-
--- a state with a value for each variable has one for that which an edge assigns
-pub has_variable : (v : ℕ) (w : What) (s : State) → WhatIsOver v w → length s ≡ v → HasVariable w s
-has_variable v (Enter params) s over long = tt
-has_variable v (Test rows) s over long = tt
-has_variable v (Set x form lo hi) s over long = let lt = over.0 in omega arith
-has_variable v (Check rows) s over long = tt
 
 straight_edge : (v m : ℕ) (e : Arc) → IsUp v m [] e → NoRows e.what → StraightEdge m v e
 straight_edge v m e up free = record { rises = by up.rises; within = up.reaches; free = free; fits = up.fit; assigns = λ s long. has_variable v e.what s up.over long }

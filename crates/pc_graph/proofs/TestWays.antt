@@ -6,19 +6,21 @@ use Rattle.std.specs.List.{AllByRecursion as Each, list_all}
 use Rattle.std.proofs.Math.Bool.{and-true}
 use Rattle.std.proofs.lemmas.Bool.{false_from_ne_true}
 use Rattle.pc_rows.specs.Linear.{Linear, Meets, MeetsAll, negation}
-use Rattle.pc_grammar.specs.declared.limits.TheConstants.{COMPARISONS}
-use Rattle.pc_syntax.specs.Forms.{is_unequal, is_affine, has_rows, is_plain, row_fits, rows_of, rows_all}
-use Rattle.pc_syntax.specs.Sane.{sane_expr, names_below, sane_compare, sane_each, sane_all, sane_test}
-use Rattle.pc_syntax.specs.Values.{State, holds, all_hold, chosen}
-use Rattle.pc_syntax.specs.declared.tree.Compare.{Compare}
-use Rattle.pc_syntax.specs.declared.tree.Test.{Test}
-use Rattle.pc_syntax.specs.declared.tree.Test.TheVariants as test
-use Rattle.pc_syntax.proofs.Results.{and_is, and_of}
-use Rattle.pc_syntax.proofs.RowLemmas.{conjunctions_are_rows, unequals_are_rows, meets_left, meets_join, met_or_not, not_both}
-use Rattle.pc_syntax.proofs.Trees.{all_by}
-use Rattle.pc_graph.specs.Lists.{AnyOf}
+use Rattle.pc_language.specs.declared.limits.TheConstants.{COMPARISONS}
+use Rattle.pc_program.specs.Forms.{is_unequal, is_affine, has_rows, is_plain, row_fits, rows_of, rows_all}
+use Rattle.pc_program.specs.Sane.{sane_expr, names_below, sane_compare, sane_each, sane_all, sane_test}
+use Rattle.pc_program.specs.Values.{holds, all_hold, chosen}
+use Rattle.pc_rows.specs.Linear.{State}
+use Rattle.pc_program.specs.declared.tree.Compare.{Compare}
+use Rattle.pc_program.specs.declared.tree.Test.{Test}
+use Rattle.pc_program.specs.declared.tree.Test.TheVariants as test
+use Rattle.pc_program.proofs.Results.{and_is, and_of}
+use Rattle.pc_program.proofs.RowLemmas.{conjunctions_are_rows, unequals_are_rows}
+use Rattle.pc_rows.proofs.Meeting.{meets_left, meets_join, met_or_not, not_both}
+use Rattle.pc_program.proofs.Stmts.{all_by}
+use Rattle.pc_flow.specs.Lists.{AnyOf}
 use Rattle.pc_graph.specs.Ways.{is_lone, apart, ways_of, ways}
-use Rattle.pc_graph.proofs.Lists.{each_more}
+use Rattle.pc_flow.proofs.Lists.{each_more}
 
 -- ---- rows
 
@@ -39,14 +41,6 @@ none_of : (s : State) (ws : List (List Linear)) → Each (λ w. MeetsAll s w →
 none_of s [] e m = m
 none_of s (w ∷ ws) e (inl m) = e.0 m
 none_of s (w ∷ ws) e (inr m) = none_of s ws e.1 m
-
--- it is decided whether a state meets rows
-pub all_or_not : (rs : List Linear) (s : State) → MeetsAll s rs ⊎ (MeetsAll s rs → ⊥)
-all_or_not rs s = by (all_or_apart rs s)
-  where
-    by : MeetsAll s rs ⊎ AnyOf (MeetsAll s) (apart rs) → MeetsAll s rs ⊎ (MeetsAll s rs → ⊥)
-    by (inl m) = inl m
-    by (inr m) = inr (λ h. none_of s (apart rs) (apart_not_all rs s h) m)
 
 -- ---- conjunctions that keep the context rules
 

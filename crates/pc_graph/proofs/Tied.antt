@@ -2,14 +2,14 @@
 use Rattle.std.specs.Prelude.{◌≡◌, ℕ, ◌+◌, ◌<◌, ℤ, pos, List, [], ◌∷◌, ◌⊎◌}
 use Rattle.std.specs.List.{AllByRecursion as Each}
 use Rattle.pc_text.specs.declared.place.Place.{Place}
-use Rattle.pc_syntax.specs.Machine.{Outcome, Going, Violated, Blocked, Ended, step}
-use Rattle.pc_syntax.specs.Values.{State}
-use Rattle.pc_syntax.specs.declared.tree.Stmt.{Stmt}
-use Rattle.pc_graph.specs.Arc.{Test, Arc, arc}
+use Rattle.pc_program.specs.Machine.{Outcome, Going, Violated, Blocked, Ended, step}
+use Rattle.pc_rows.specs.Linear.{State}
+use Rattle.pc_program.specs.declared.tree.Stmt.{Stmt}
+use Rattle.pc_flow.specs.Arc.{Test, Arc, arc}
 use Rattle.pc_graph.specs.Corresponds.{IsNoStep, IsStep}
-use Rattle.pc_graph.specs.Lists.{In}
+use Rattle.pc_flow.specs.Lists.{In}
 use Rattle.pc_graph.specs.Lowering.{Piece}
-use Rattle.pc_graph.specs.Walk.{Pass, Keeps}
+use Rattle.pc_flow.specs.Walk.{Pass, Keeps}
 
 -- the lists of the points from a number on
 abbrev pub Holds : (ℕ → List Stmt) → ℕ → List (List Stmt) → Type 0

@@ -5,19 +5,18 @@ use Rattle.std.specs.List.{AllByRecursion as Each}
 use Rattle.pc_text.specs.declared.place.Place.{Place}
 use Rattle.pc_rows.specs.Linear.{Linear}
 use Rattle.pc_rows.proofs.Joining.{each_join}
-use Rattle.pc_syntax.specs.Forms.{rows_all}
-use Rattle.pc_syntax.specs.declared.tree.Compare.{Compare}
-use Rattle.pc_syntax.specs.declared.tree.Test.{Test as Condition}
-use Rattle.pc_syntax.specs.declared.tree.Stmt.{Stmt, fold-roll-Stmt}
-use Rattle.pc_syntax.specs.declared.tree.Stmt.TheOpen as stmt
-use Rattle.pc_syntax.proofs.Stmts.{by_stmt}
-use Rattle.pc_syntax.proofs.Trees.{all_by}
-use Rattle.pc_graph.specs.Arc.{What, Enter, Test, Check, Arc, arc}
+use Rattle.pc_program.specs.Forms.{rows_all}
+use Rattle.pc_program.specs.declared.tree.Compare.{Compare}
+use Rattle.pc_program.specs.declared.tree.Test.{Test as Condition}
+use Rattle.pc_program.specs.declared.tree.Stmt.{Stmt, fold-roll-Stmt}
+use Rattle.pc_program.specs.declared.tree.Stmt.TheOpen as stmt
+use Rattle.pc_program.proofs.Stmts.{by_stmt, all_by}
+use Rattle.pc_flow.specs.Arc.{What, Enter, Test, Check, Arc, arc}
 use Rattle.pc_graph.specs.Lowering.{Piece, Rule, one, tests, join_edges, assigned, rule, rule_step, rules, made}
-use Rattle.pc_graph.specs.Shape.{TurnsApart, NoSharedHead}
+use Rattle.pc_flow.specs.Shape.{TurnsApart, NoSharedHead}
 use Rattle.pc_graph.specs.Straight.{LoopsHaveTheirHeads}
 use Rattle.pc_graph.specs.Ways.{ways}
-use Rattle.pc_graph.proofs.Lists.{each_more}
+use Rattle.pc_flow.proofs.Lists.{each_more}
 use Rattle.pc_graph.proofs.Unrolled.{rule-if, rule-while}
 
 -- an edge that leads up, or back to a point from lo on, below hi

@@ -2,14 +2,15 @@
 use Rattle.std.proofs.Common.{◌≡◌, ℕ, ℤ, List, [], ◌∷◌, ◌++◌, Bool, refl, ap, ◌∙◌, map, cond}
 use Rattle.std.specs.Prelude.{◌&&◌, slice_set, ◌+ℤ◌}
 use Rattle.pc_text.specs.declared.place.Place.{Place}
-use Rattle.pc_syntax.specs.Machine.{step, Going, Violated, Blocked, drawn}
-use Rattle.pc_syntax.specs.Sane.{sane_stmt, sane_step, sane_stmts, sane_test, sane_each}
-use Rattle.pc_syntax.specs.Values.{State, value_of, all_hold, chosen}
-use Rattle.pc_syntax.specs.declared.tree.Compare.{Compare}
-use Rattle.pc_syntax.specs.declared.tree.Right.{Right}
-use Rattle.pc_syntax.specs.declared.tree.Test.{Test}
-use Rattle.pc_syntax.specs.declared.tree.Stmt.{Stmt, roll-Stmt, out-roll-Stmt, fold-roll-Stmt, para-roll-Stmt}
-use Rattle.pc_syntax.specs.declared.tree.Stmt.TheOpen as stmt
+use Rattle.pc_program.specs.Machine.{step, Going, Violated, Blocked, drawn}
+use Rattle.pc_program.specs.Sane.{sane_stmt, sane_step, sane_stmts, sane_test, sane_each}
+use Rattle.pc_program.specs.Values.{value_of, all_hold, chosen}
+use Rattle.pc_rows.specs.Linear.{State}
+use Rattle.pc_program.specs.declared.tree.Compare.{Compare}
+use Rattle.pc_program.specs.declared.tree.Right.{Right}
+use Rattle.pc_program.specs.declared.tree.Test.{Test}
+use Rattle.pc_program.specs.declared.tree.Stmt.{Stmt, roll-Stmt, out-roll-Stmt, fold-roll-Stmt, para-roll-Stmt}
+use Rattle.pc_program.specs.declared.tree.Stmt.TheOpen as stmt
 use Rattle.pc_graph.specs.Lowering.{Rule, rule, rule_step}
 use Rattle.pc_graph.specs.Rest.{Rests, rests, rests_step, rests_in_order, rests_of, firsts}
 

@@ -7,25 +7,25 @@ use Rattle.std.proofs.lemmas.List.{get_or-set_other}
 use Rattle.std.proofs.Math.IntN.{*ℤ-zero}
 use Rattle.std.proofs.lemmas.Bool.{ltb-true}
 use Rattle.pc_text.specs.declared.place.Place.{Place}
-use Rattle.pc_grammar.specs.declared.limits.TheConstants.{COMPARISONS}
-use Rattle.pc_grammar.specs.declared.tree.Op.{Op}
-use Rattle.pc_grammar.specs.declared.tree.Op.TheVariants as op
+use Rattle.pc_language.specs.declared.limits.TheConstants.{COMPARISONS}
+use Rattle.pc_language.specs.declared.operator.Op.{Op}
+use Rattle.pc_language.specs.declared.operator.Op.TheVariants as op
 use Rattle.pc_rows.specs.Linear.{Linear, IsOver, of_constant, sum_of, scaled_by, difference_of, is_number, is_in_range, fits}
 use Rattle.pc_rows.specs.declared.row.TheConstants.{VARIABLES}
 use Rattle.pc_rows.proofs.Algebra.{get_or-add_lists, get_or-scale_list}
 use Rattle.pc_rows.proofs.Only.{difference_is_over, negation_is_over}
 use Rattle.pc_rows.proofs.Joining.{each_join}
-use Rattle.pc_syntax.specs.Forms.{bind, variable, product, form_of, form, ok_or, rows_by, rows_of, rows_all, row_fits, is_affine, is_unequal}
-use Rattle.pc_syntax.specs.Sane.{names_below, sane_expr, sane_compare, sane_each, sane_all, sane_test}
-use Rattle.pc_syntax.specs.declared.normal.AffineFault.{AffineFault}
-use Rattle.pc_syntax.specs.declared.normal.AffineFault.TheVariants.{NotAffine, Past}
-use Rattle.pc_syntax.specs.declared.tree.Compare.{Compare}
-use Rattle.pc_syntax.specs.declared.tree.Expr.{Expr, fold-roll-Expr}
-use Rattle.pc_syntax.specs.declared.tree.Test.{Test as Condition}
-use Rattle.pc_syntax.specs.declared.tree.Test.TheVariants as test
-use Rattle.pc_syntax.proofs.Exprs.{by_cases}
-use Rattle.pc_syntax.proofs.Results.{and_is, bind_keeps, if_keeps}
-use Rattle.pc_syntax.proofs.FormLemmas.{get_or-zeros}
+use Rattle.pc_program.specs.Forms.{bind, variable, product, form_of, form, ok_or, rows_by, rows_of, rows_all, row_fits, is_affine, is_unequal}
+use Rattle.pc_program.specs.Sane.{names_below, sane_expr, sane_compare, sane_each, sane_all, sane_test}
+use Rattle.pc_program.specs.declared.normal.AffineFault.{AffineFault}
+use Rattle.pc_program.specs.declared.normal.AffineFault.TheVariants.{NotAffine, Past}
+use Rattle.pc_program.specs.declared.tree.Compare.{Compare}
+use Rattle.pc_program.specs.declared.tree.Expr.{Expr, fold-roll-Expr}
+use Rattle.pc_program.specs.declared.tree.Test.{Test as Condition}
+use Rattle.pc_program.specs.declared.tree.Test.TheVariants as test
+use Rattle.pc_program.proofs.Exprs.{by_cases}
+use Rattle.pc_program.proofs.Results.{and_is, bind_keeps, if_keeps}
+use Rattle.pc_program.proofs.FormLemmas.{get_or-zeros}
 use Rattle.pc_graph.specs.declared.draft.Loop.{Loop}
 use Rattle.pc_graph.specs.Lowering.{tried_at, points_from}
 use Rattle.pc_graph.specs.Ways.{is_lone, apart, ways_of, ways}

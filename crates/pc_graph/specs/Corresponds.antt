@@ -2,15 +2,15 @@
 use Rattle.std.specs.Prelude.{◌≡◌, ℕ, ◌≤◌, ℤ, List, ◌⊎◌, ◌↔◌, length}
 use Rattle.std.specs.List.{AllByRecursion as Each}
 use Rattle.pc_text.specs.declared.place.Place.{Place}
-use Rattle.pc_syntax.specs.Machine.{Going, Violated, step, run_of, Safe}
-use Rattle.pc_syntax.specs.Values.{State}
-use Rattle.pc_syntax.specs.declared.program.Program.{Program}
-use Rattle.pc_syntax.specs.declared.tree.Stmt.{Stmt}
-use Rattle.pc_graph.specs.Arc.{Arc}
-use Rattle.pc_graph.specs.Lists.{In}
+use Rattle.pc_program.specs.Machine.{Going, Violated, step, run_of, Safe}
+use Rattle.pc_rows.specs.Linear.{State}
+use Rattle.pc_program.specs.declared.program.Program.{Program}
+use Rattle.pc_program.specs.declared.tree.Stmt.{Stmt}
+use Rattle.pc_flow.specs.Arc.{Arc}
+use Rattle.pc_flow.specs.Lists.{In}
 use Rattle.pc_graph.specs.Lowering.{graph, made, no_steps}
 use Rattle.pc_graph.specs.Rest.{rest}
-use Rattle.pc_graph.specs.Walk.{Pass, Walk, IsEntry, GraphSafe, Breaks}
+use Rattle.pc_flow.specs.Walk.{Pass, Walk, IsEntry, GraphSafe, Breaks}
 
 -- a run that is still going has a walk to a point with the statements still to be run, in the same state
 abbrev pub RunsHaveWalks : Program → State → Type 0

@@ -3,7 +3,7 @@ use Rattle.std.specs.Prelude.{ℕ, ◌+◌, List, [], ◌∷◌, ◌++◌, Bool,
 use Rattle.pc_text.specs.declared.place.Place.{Place}
 use Rattle.pc_rows.specs.Linear.{Linear}
 use Rattle.pc_graph.specs.declared.draft.Loop.{Loop}
-use Rattle.pc_graph.specs.Arc.{Enter, Test, Arc, arc}
+use Rattle.pc_flow.specs.Arc.{Enter, Test, Arc, arc}
 use Rattle.pc_graph.specs.Lowering.{Piece, tests, all_alike}
 
 -- the present point, the number of the next one, and what there is, each list in order

@@ -1,13 +1,6 @@
-pub mod Lists
-pub mod Arc
-pub mod Flow
-pub mod Shape
 pub mod Ways
 pub mod Lowering
 pub mod Drawn
 pub mod Rest
-pub mod Walk
 pub mod Corresponds
-pub mod Carry
-pub mod Exact
 pub mod Straight

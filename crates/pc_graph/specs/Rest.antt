@@ -1,8 +1,8 @@
 -- The statements that are still to be run at each point of a program's graph.
 use Rattle.std.specs.Prelude.{ℕ, List, [], ◌∷◌, ◌++◌, map, slice_index_or}
-use Rattle.pc_syntax.specs.declared.program.Program.{Program}
-use Rattle.pc_syntax.specs.declared.tree.Stmt.{Stmt, Stmt-F, roll-Stmt, para-Stmt}
-use Rattle.pc_syntax.specs.declared.tree.Stmt.TheOpen as stmt
+use Rattle.pc_program.specs.declared.program.Program.{Program}
+use Rattle.pc_program.specs.declared.tree.Stmt.{Stmt, Stmt-F, roll-Stmt, para-Stmt}
+use Rattle.pc_program.specs.declared.tree.Stmt.TheOpen as stmt
 
 -- from what follows a statement: the lists at the points that its rule makes, in the order in which it makes them
 abbrev pub Rests : Type 0

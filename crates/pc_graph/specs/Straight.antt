@@ -3,19 +3,19 @@ use Rattle.std.specs.Prelude.{◌≡◌, ℤ, List, [], Bool, true, false, ◌&&
 use Rattle.std.specs.List.{AllByRecursion as Each}
 use Rattle.pc_text.specs.declared.place.Place.{Place}
 use Rattle.pc_rows.specs.Linear.{MeetsAll}
-use Rattle.pc_syntax.specs.Loops.{whiles_of}
-use Rattle.pc_syntax.specs.Machine.{Violated, run_of, Safe}
-use Rattle.pc_syntax.specs.Sane.{all_true}
-use Rattle.pc_syntax.specs.Values.{State}
-use Rattle.pc_syntax.specs.declared.program.Program.{Program}
-use Rattle.pc_syntax.specs.declared.tree.Test.{Test}
-use Rattle.pc_syntax.specs.declared.tree.Test.TheVariants as test
-use Rattle.pc_syntax.specs.declared.tree.Stmt.{Stmt, Stmt-F, fold-Stmt}
-use Rattle.pc_syntax.specs.declared.tree.Stmt.TheOpen as stmt
-use Rattle.pc_graph.specs.Exact.{Annotation, IsPaid, IsOwed, StraightEdge}
+use Rattle.pc_program.specs.Loops.{whiles_of}
+use Rattle.pc_program.specs.Machine.{Violated, run_of, Safe}
+use Rattle.pc_program.specs.Sane.{all_true}
+use Rattle.pc_rows.specs.Linear.{State}
+use Rattle.pc_program.specs.declared.program.Program.{Program}
+use Rattle.pc_program.specs.declared.tree.Test.{Test}
+use Rattle.pc_program.specs.declared.tree.Test.TheVariants as test
+use Rattle.pc_program.specs.declared.tree.Stmt.{Stmt, Stmt-F, fold-Stmt}
+use Rattle.pc_program.specs.declared.tree.Stmt.TheOpen as stmt
+use Rattle.pc_flow.specs.Exact.{Annotation, IsPaid, IsOwed, StraightEdge}
 use Rattle.pc_graph.specs.Lowering.{graph}
-use Rattle.pc_graph.specs.Shape.{IsGraph, NoSharedHead}
-use Rattle.pc_graph.specs.Walk.{IsEntry, entered}
+use Rattle.pc_flow.specs.Shape.{IsGraph, NoSharedHead}
+use Rattle.pc_flow.specs.Walk.{IsEntry, entered}
 
 -- every graph of a program is one
 abbrev pub GraphsAreKept : Type 0
@@ -42,6 +42,10 @@ is_straight x = fold-Stmt Bool straight_step x
 
 abbrev pub are_straight : List Stmt → Bool
 are_straight xs = all_true (map is_straight xs)
+
+-- such a program has no loops
+abbrev pub StraightIsLoopFree : Type 0
+StraightIsLoopFree = (p : Program) → are_straight p.body ≡ true → whiles_of p.body ≡ []
 
 -- each edge of the graph of such a program leads up, and every state passes it unless it is an assertion
 abbrev pub StraightGraphs : Type 0

@@ -1,10 +1,10 @@
 -- The edges of a test: one for each way in which it may hold, and one for each way in which it may fail.
 use Rattle.std.specs.Prelude.{List, [], ◌∷◌, Bool, true, false}
 use Rattle.pc_rows.specs.Linear.{Linear, negation}
-use Rattle.pc_syntax.specs.Forms.{is_unequal, rows_all}
-use Rattle.pc_syntax.specs.declared.tree.Compare.{Compare}
-use Rattle.pc_syntax.specs.declared.tree.Test.{Test}
-use Rattle.pc_syntax.specs.declared.tree.Test.TheVariants as test
+use Rattle.pc_program.specs.Forms.{is_unequal, rows_all}
+use Rattle.pc_program.specs.declared.tree.Compare.{Compare}
+use Rattle.pc_program.specs.declared.tree.Test.{Test}
+use Rattle.pc_program.specs.declared.tree.Test.TheVariants as test
 
 -- one way: all rows
 abbrev pub together : List Linear → List (List Linear)

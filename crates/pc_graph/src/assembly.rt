@@ -5,7 +5,7 @@ ghost use Rattle.std.specs.List.{list_any};
 ghost use Rattle.pc_graph.specs.Lowering.{points_from, point_at, tried_at};
 
 use crate::draft::Loop;
-use crate::point::PointInfo;
+use pc_flow::PointInfo;
 use pc_rows::Rows;
 use pc_text::{NoMemory, Place};
 use sqlite_items::Items;

@@ -2,13 +2,14 @@
 
 ghost use Rattle.std.specs.Prelude.{◌≡◌, ◌<◌, ◌≤◌, true};
 ghost use Rattle.pc_rows.specs.declared.row.TheConstants.{VARIABLES};
-ghost use Rattle.pc_syntax.specs.Sane.{sane_right};
-ghost use Rattle.pc_graph.specs.Arc.{IsFit};
+ghost use Rattle.pc_program.specs.Sane.{sane_right};
+ghost use Rattle.pc_flow.specs.Arc.{IsFit};
 ghost use Rattle.pc_graph.specs.Lowering.{assigned, low_end, high_end};
 
-use crate::what::What;
-use pc_grammar::Choice;
-use pc_syntax::{Bound, Right, form_of};
+use pc_flow::What;
+use pc_language::Choice;
+use pc_language::Bound;
+use pc_program::{Right, form_of};
 use std::alloc::Global;
 
 /// What an assignment does.

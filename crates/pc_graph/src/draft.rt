@@ -2,19 +2,19 @@
 
 ghost use Rattle.std.specs.Prelude.{◌≡◌, ◌<◌, ◌-◌, ◌^◌, OnOk, IfOk, true};
 ghost use Rattle.std.specs.List.{list_all};
-ghost use Rattle.pc_syntax.specs.Forms.{row_fits, rows_all};
-ghost use Rattle.pc_syntax.specs.Sane.{sane_test};
-ghost use Rattle.pc_syntax.specs.declared.tree.Test.TheVariants.{All};
-ghost use Rattle.pc_graph.specs.Arc.{IsFit, arc};
+ghost use Rattle.pc_program.specs.Forms.{row_fits, rows_all};
+ghost use Rattle.pc_program.specs.Sane.{sane_test};
+ghost use Rattle.pc_program.specs.declared.tree.Test.TheVariants.{All};
+ghost use Rattle.pc_flow.specs.Arc.{IsFit, arc};
 ghost use Rattle.pc_graph.specs.Drawn.{begun, extended, with_point, with_edge, with_tests, branched, joined_at, turned, headed};
 ghost use Rattle.pc_graph.specs.Lowering.{one};
 ghost use Rattle.pc_graph.specs.Ways.{apart, is_lone, ways_of, ways};
 
-use crate::edge::Edge;
+use pc_flow::Edge;
 use crate::row::{is_lone, negation, only};
-use crate::what::What;
+use pc_flow::What;
 use pc_rows::Rows;
-use pc_syntax::{Compare, Test, rows_of};
+use pc_program::{Compare, Test, rows_of};
 use pc_text::{NoMemory, Place};
 use sqlite_items::Items;
 use std::alloc::Global;

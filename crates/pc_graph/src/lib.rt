@@ -1,26 +1,22 @@
-//! Points and edges: the graph of a program, and rows that are carried back over its edges.
+//! The graph of a program: its points and edges, which take the steps of the program.
+//!
+//! Graphs themselves are those of `pc_flow`; what this crate owns is how they are made. The crate
+//! `pc_lower` is another thing: it finds the rows that the points of a graph need.
 #![tactic(auto)]
 
 mod assembly;
 mod assignment;
-mod backward;
 mod draft;
-mod edge;
-mod graph;
 mod laws;
 mod lowering;
-mod point;
 mod row;
-mod what;
 
-pub use backward::{back, entry_row};
-pub use edge::Edge;
-pub use graph::Graph;
 pub use laws::{
-    broken_has_walk, carrying_is_exact, graphs_are_kept, loop_free_graphs, loops_have_their_heads,
-    owed_is_enough, owed_is_needed, owed_is_violated, paid_is_safe, paid_programs_are_safe,
-    steps_correspond, straight_graphs,
+    graphs_are_kept, loop_free_graphs, loops_have_their_heads, owed_is_violated,
+    paid_programs_are_safe, steps_correspond, straight_graphs, straight_is_loop_free,
 };
 pub use lowering::lower;
-pub use point::PointInfo;
-pub use what::{TEST_ROWS, What};
+pub use pc_flow::{
+    Edge, Graph, PointInfo, TEST_ROWS, What, back, broken_has_walk, carrying_is_exact, entry_row,
+    owed_is_enough, owed_is_needed, paid_is_safe,
+};

@@ -2,8 +2,8 @@
 
 ghost use Rattle.std.specs.Prelude.{◌≡◌, ◌<◌, ◌≤◌, ◌+◌, ◌^◌, OnOk, IfOk, true};
 ghost use Rattle.pc_rows.specs.declared.row.TheConstants.{VARIABLES};
-ghost use Rattle.pc_syntax.specs.Sane.{sane_stmt, sane_stmts, sane_test};
-ghost use Rattle.pc_syntax.specs.declared.tree.Stmt.TheVariants.{If, While};
+ghost use Rattle.pc_program.specs.Sane.{sane_stmt, sane_stmts, sane_test};
+ghost use Rattle.pc_program.specs.declared.tree.Stmt.TheVariants.{If, While};
 ghost use Rattle.pc_graph.specs.Drawn.{extended, branched, entered};
 ghost use Rattle.pc_graph.specs.Lowering.{rule, rules, graph};
 ghost use Rattle.pc_graph.specs.Ways.{ways};
@@ -11,9 +11,9 @@ ghost use Rattle.pc_graph.specs.Ways.{ways};
 use crate::assembly::points;
 use crate::assignment::assigned;
 use crate::draft::Draft;
-use crate::graph::Graph;
-use crate::what::What;
-use pc_syntax::{Compare, Program, Stmt, Test, rows_of};
+use pc_flow::Graph;
+use pc_flow::What;
+use pc_program::{Compare, Program, Stmt, Test, rows_of};
 use pc_text::{NoMemory, Place};
 use std::alloc::Global;
 

@@ -5,11 +5,11 @@ use Rattle.std.specs.List.{AllByRecursion as Each}
 use Rattle.std.proofs.lemmas.Bool.Decides.{eqb_tells}
 use Rattle.pc_rows.specs.Linear.{Linear}
 use Rattle.pc_rows.specs.Joins.{joined}
-use Rattle.pc_graph.specs.declared.point.PointInfo.{PointInfo}
-use Rattle.pc_graph.specs.Arc.{Arc}
-use Rattle.pc_graph.specs.Exact.{Annotation}
-use Rattle.pc_graph.specs.Lists.{In}
-use Rattle.pc_graph.specs.Shape.{IsHead, LeadsUp}
+use Rattle.pc_flow.specs.declared.point.PointInfo.{PointInfo}
+use Rattle.pc_flow.specs.Arc.{Arc}
+use Rattle.pc_flow.specs.Exact.{Annotation}
+use Rattle.pc_flow.specs.Lists.{In}
+use Rattle.pc_flow.specs.Shape.{IsHead, LeadsUp}
 use Rattle.pc_lower.specs.Annotation.{is_head}
 use Rattle.pc_lower.specs.Need.{asked, leaving, gathered}
 use Rattle.pc_lower.specs.Operations.{Operation, edge_operations, edges_operations}

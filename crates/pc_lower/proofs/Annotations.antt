@@ -5,7 +5,7 @@ use Rattle.std.proofs.lemmas.List.{drop_all}
 use Rattle.std.proofs.Math.Numerals.{suc-eq-add-one}
 use Rattle.pc_rows.specs.Linear.{Linear}
 use Rattle.pc_rows.specs.declared.rows.TheConstants.{ROWS}
-use Rattle.pc_graph.specs.declared.point.PointInfo.{PointInfo}
+use Rattle.pc_flow.specs.declared.point.PointInfo.{PointInfo}
 use Rattle.pc_rows.proofs.Joining.{each_join}
 use Rattle.pc_lower.specs.Annotation.{rows_at, AreFew, AreOver, is_head, no_rows}
 use Rattle.pc_lower.specs.Need.{at_heads}

@@ -5,9 +5,9 @@ use Rattle.pc_rows.specs.Linear.{Linear}
 use Rattle.pc_rows.specs.Joins.{joined, with_row}
 use Rattle.pc_rows.specs.declared.rows.TheConstants.{ROWS}
 use Rattle.pc_rows.proofs.Joining.{joined-longer}
-use Rattle.pc_graph.specs.declared.what.What.{What}
-use Rattle.pc_graph.specs.declared.what.What.TheVariants.{Test, Check}
-use Rattle.pc_graph.specs.Carry.{back_all}
+use Rattle.pc_flow.specs.declared.what.What.{What}
+use Rattle.pc_flow.specs.declared.what.What.TheVariants.{Test, Check}
+use Rattle.pc_flow.specs.Carry.{back_all}
 use Rattle.pc_lower.specs.declared.fault.CandidateFault.{CandidateFault}
 use Rattle.pc_lower.specs.declared.fault.CandidateFault.TheVariants.{Past, Full, NoMemory}
 use Rattle.pc_lower.specs.Need.{uncovered, asked}

@@ -3,8 +3,8 @@ use Rattle.std.proofs.Common.{◌≡◌, ◌∙◌, ℕ, suc, zero, ◌≤◌, L
 use Rattle.std.specs.List.{AllByRecursion as Each}
 use Rattle.pc_rows.specs.Linear.{Linear}
 use Rattle.pc_rows.specs.declared.rows.TheConstants.{ROWS}
-use Rattle.pc_graph.specs.Flow.{Flow}
-use Rattle.pc_graph.specs.Shape.{IsGraph}
+use Rattle.pc_flow.specs.Flow.{Flow}
+use Rattle.pc_flow.specs.Shape.{IsGraph}
 use Rattle.pc_lower.specs.declared.fault.CandidateFault.{CandidateFault}
 use Rattle.pc_lower.specs.declared.fault.CandidateFault.TheVariants.{Past, Full, NoMemory}
 use Rattle.pc_lower.specs.Annotation.{rows_at, is_head, AreFew, NoHeads}

@@ -6,13 +6,13 @@ use Rattle.std.specs.Int.Signed.{≤ℤ_refl}
 use Rattle.pc_rows.specs.Linear.{Linear}
 use Rattle.pc_rows.specs.Joins.{is_covered, IsCovered as Covers, SomeIsAtMost, with_row, joined}
 use Rattle.pc_rows.proofs.Joining.{covered_is, is_covered_test}
-use Rattle.pc_graph.specs.declared.what.What.{What}
-use Rattle.pc_graph.specs.declared.what.What.TheVariants.{Enter, Test, Set, Check}
-use Rattle.pc_graph.specs.Arc.{Arc}
-use Rattle.pc_graph.specs.Carry.{owes, test_rows}
-use Rattle.pc_graph.specs.Exact.{Annotation}
-use Rattle.pc_graph.specs.Lists.{In}
-use Rattle.pc_graph.proofs.Lists.{each_more}
+use Rattle.pc_flow.specs.declared.what.What.{What}
+use Rattle.pc_flow.specs.declared.what.What.TheVariants.{Enter, Test, Set, Check}
+use Rattle.pc_flow.specs.Arc.{Arc}
+use Rattle.pc_flow.specs.Carry.{owes, test_rows}
+use Rattle.pc_flow.specs.Exact.{Annotation}
+use Rattle.pc_flow.specs.Lists.{In}
+use Rattle.pc_flow.proofs.Lists.{each_more}
 use Rattle.pc_lower.specs.Annotation.{rows_at}
 use Rattle.pc_lower.specs.Need.{uncovered, asked, leaving, gathered, need}
 use Rattle.pc_lower.specs.Laws.{AnnotationCovers}

@@ -4,9 +4,9 @@ use Rattle.std.specs.Prelude.{◌⊎◌}
 use Rattle.std.specs.List.{AllByRecursion as Each}
 use Rattle.std.proofs.lemmas.List.{get_or-set_same, get_or-set_other}
 use Rattle.pc_rows.specs.Linear.{Linear}
-use Rattle.pc_graph.specs.declared.point.PointInfo.{PointInfo}
-use Rattle.pc_graph.specs.Flow.{Flow}
-use Rattle.pc_graph.specs.Shape.{LeadsUp}
+use Rattle.pc_flow.specs.declared.point.PointInfo.{PointInfo}
+use Rattle.pc_flow.specs.Flow.{Flow}
+use Rattle.pc_flow.specs.Shape.{LeadsUp}
 use Rattle.pc_lower.specs.Annotation.{rows_at, is_head}
 use Rattle.pc_lower.specs.Need.{leaving, needed_at, filled, filled_below}
 use Rattle.pc_lower.proofs.Agreeing.{AgreeAbove, agree_leaving, gathered_alike}

@@ -6,8 +6,8 @@ use Rattle.std.proofs.lemmas.List.{drop_all}
 use Rattle.pc_rows.specs.Linear.{Linear}
 use Rattle.pc_rows.specs.Joins.{joined}
 use Rattle.pc_rows.proofs.Adding.{drop_got}
-use Rattle.pc_graph.specs.Arc.{Arc}
-use Rattle.pc_graph.specs.Exact.{Annotation}
+use Rattle.pc_flow.specs.Arc.{Arc}
+use Rattle.pc_flow.specs.Exact.{Annotation}
 use Rattle.pc_lower.specs.declared.fault.CandidateFault.{CandidateFault}
 use Rattle.pc_lower.specs.Need.{asked, leaving, gathered}
 use Rattle.pc_lower.specs.Operations.{Fits, Answers, edge_operations, edges_operations}

@@ -4,10 +4,10 @@ use Rattle.std.specs.Prelude.{◌⊎◌}
 use Rattle.std.specs.List.{AllByRecursion as Each}
 use Rattle.std.proofs.lemmas.List.{get_or_past, ext_get_or}
 use Rattle.pc_rows.specs.Linear.{Linear}
-use Rattle.pc_graph.specs.declared.point.PointInfo.{PointInfo}
-use Rattle.pc_graph.specs.Arc.{Arc}
-use Rattle.pc_graph.specs.Flow.{Flow}
-use Rattle.pc_graph.specs.Shape.{LeadsUp}
+use Rattle.pc_flow.specs.declared.point.PointInfo.{PointInfo}
+use Rattle.pc_flow.specs.Arc.{Arc}
+use Rattle.pc_flow.specs.Flow.{Flow}
+use Rattle.pc_flow.specs.Shape.{LeadsUp}
 use Rattle.pc_lower.specs.Annotation.{rows_at, is_head, NoHeads}
 use Rattle.pc_lower.specs.Need.{leaving, gathered, needed_at, at_heads, filled_below, need, IsNeed}
 use Rattle.pc_lower.specs.Laws.{NeedIsMeant, NeedIsFree}

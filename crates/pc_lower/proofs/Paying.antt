@@ -1,5 +1,5 @@
 -- Without loops the need pays every edge, and each of its rows is owed.
-use Rattle.std.proofs.Common.{◌≡◌, ℕ, suc, zero, List, [], ◌∷◌, ◌++◌, sym, refl, subst, cond, Bool, true, false, arith, inl, inr, ℤ, pos, ◌≤ℤ◌}
+use Rattle.std.proofs.Common.{◌≡◌, Some, ℕ, suc, zero, List, [], ◌∷◌, ◌++◌, sym, refl, subst, cond, Bool, true, false, arith, inl, inr, ℤ, pos, ◌≤ℤ◌}
 use Rattle.std.specs.Prelude.{◌⊎◌, not, filter}
 use Rattle.std.specs.List.{AllByRecursion as Each}
 use Rattle.std.proofs.lemmas.Int.{ints}
@@ -8,19 +8,19 @@ use Rattle.pc_rows.specs.Joins.{is_covered, with_row, joined}
 use Rattle.pc_rows.proofs.Carrying.{substitution_is_exact}
 use Rattle.pc_rows.proofs.First.{value_of_first}
 use Rattle.pc_rows.proofs.Joining.{covered_is_met, each_join, each_left, each_right}
-use Rattle.pc_syntax.specs.Machine.{end_of}
-use Rattle.pc_syntax.specs.Values.{State}
-use Rattle.pc_graph.specs.declared.point.PointInfo.{PointInfo}
-use Rattle.pc_graph.specs.declared.what.What.{What}
-use Rattle.pc_graph.specs.declared.what.What.TheVariants.{Enter, Test, Set, Check}
-use Rattle.pc_graph.specs.Arc.{Arc}
-use Rattle.pc_graph.specs.Carry.{back_all, owes, test_rows, HasVariable, Pays}
-use Rattle.pc_graph.specs.Exact.{Annotation}
-use Rattle.pc_graph.specs.Lists.{In}
-use Rattle.pc_graph.specs.Shape.{LeadsUp}
-use Rattle.pc_graph.specs.Walk.{Pass}
-use Rattle.pc_graph.proofs.Lists.{each_at, each_in, in_either}
-use Rattle.pc_graph.proofs.Straights.{has_variable}
+use Rattle.pc_language.specs.Ends.{end_of}
+use Rattle.pc_rows.specs.Linear.{State}
+use Rattle.pc_flow.specs.declared.point.PointInfo.{PointInfo}
+use Rattle.pc_flow.specs.declared.what.What.{What}
+use Rattle.pc_flow.specs.declared.what.What.TheVariants.{Enter, Test, Set, Check}
+use Rattle.pc_flow.specs.Arc.{Arc}
+use Rattle.pc_flow.specs.Carry.{back_all, owes, test_rows, HasVariable, Pays}
+use Rattle.pc_flow.specs.Exact.{Annotation}
+use Rattle.pc_flow.specs.Lists.{In}
+use Rattle.pc_flow.specs.Shape.{LeadsUp}
+use Rattle.pc_flow.specs.Walk.{Pass}
+use Rattle.pc_flow.proofs.Lists.{each_at, each_in, in_either}
+use Rattle.pc_flow.proofs.Assigning.{has_variable}
 use Rattle.pc_lower.specs.Annotation.{rows_at, is_head, NoHeads}
 use Rattle.pc_lower.specs.Need.{asked, leaving, gathered, need}
 use Rattle.pc_lower.specs.Laws.{NeedIsPaid, NeedIsOwed}
@@ -50,7 +50,7 @@ passes (Set x form lo hi) s t (r ∷ rows) has pass m =
     let low = pass.1 in
     let high = pass.2 in
     let ordered : end_of lo ≤ℤ end_of hi = omega (arith, ints) in (
-      subst (λ (z : State). Meets z r) (sym pass.3) ((substitution_is_exact r form x (end_of lo) (end_of hi) s has ordered).0 m.0 pass.0 low high),
+      subst (λ (z : State). Meets z r) (sym pass.3) ((substitution_is_exact r form x (Some (end_of lo)) (Some (end_of hi)) s has ordered).0 m.0 pass.0 low high),
       passes (Set x form lo hi) s t rows has pass m.1,
     )
 

@@ -1,5 +1,5 @@
 -- With tame numbers no operation of a need without loops leaves the range or has a row too many.
-use Rattle.std.proofs.Common.{◌≡◌, ℕ, suc, zero, ◌+◌, ◌*◌, ◌^◌, ◌<◌, ◌≤◌, List, [], ◌∷◌, ◌++◌, length, sym, subst, cond, Bool, arith, lit<}
+use Rattle.std.proofs.Common.{◌≡◌, Some, ℕ, suc, zero, ◌+◌, ◌*◌, ◌^◌, ◌<◌, ◌≤◌, List, [], ◌∷◌, ◌++◌, length, sym, subst, cond, Bool, arith, lit<}
 use Rattle.std.specs.List.{AllByRecursion as Each}
 use Rattle.pc_rows.specs.Linear.{Linear}
 use Rattle.pc_rows.specs.Bounds.{AllWithin}
@@ -7,13 +7,13 @@ use Rattle.pc_rows.specs.Joins.{joined}
 use Rattle.pc_rows.specs.declared.rows.TheConstants.{ROWS}
 use Rattle.pc_rows.proofs.Bounding.{small_substitution_fits}
 use Rattle.pc_rows.proofs.Joining.{joined-longer, each_join}
-use Rattle.pc_syntax.specs.Machine.{end_of}
-use Rattle.pc_graph.specs.declared.what.What.{What}
-use Rattle.pc_graph.specs.declared.what.What.TheVariants.{Enter, Test, Set, Check}
-use Rattle.pc_graph.specs.Arc.{Arc}
-use Rattle.pc_graph.specs.Exact.{Annotation}
-use Rattle.pc_graph.specs.Flow.{Flow}
-use Rattle.pc_graph.specs.Shape.{IsGraph}
+use Rattle.pc_language.specs.Ends.{end_of}
+use Rattle.pc_flow.specs.declared.what.What.{What}
+use Rattle.pc_flow.specs.declared.what.What.TheVariants.{Enter, Test, Set, Check}
+use Rattle.pc_flow.specs.Arc.{Arc}
+use Rattle.pc_flow.specs.Exact.{Annotation}
+use Rattle.pc_flow.specs.Flow.{Flow}
+use Rattle.pc_flow.specs.Shape.{IsGraph}
 use Rattle.pc_lower.specs.Annotation.{rows_at, NoHeads, no_rows}
 use Rattle.pc_lower.specs.Need.{asked, leaving, gathered, need}
 use Rattle.pc_lower.specs.Operations.{Fits, carries, edges_operations, operations_below, point_operations}
@@ -33,7 +33,7 @@ carries_fit (Enter params) (r ∷ rows) own h = (tt, carries_fit (Enter params) 
 carries_fit (Test rows) (r ∷ more) own h = (tt, carries_fit (Test rows) more own h.1)
 carries_fit (Check rows) (r ∷ more) own h = (tt, carries_fit (Check rows) more own h.1)
 carries_fit (Set x form lo hi) (r ∷ rows) own h =
-    (small_substitution_fits tame_bound r form x (end_of lo) (end_of hi) small h.0 own.0 own.1 own.2, carries_fit (Set x form lo hi) rows own h.1)
+    (small_substitution_fits tame_bound r form x (Some (end_of lo)) (Some (end_of hi)) small h.0 own.0 own.1 own.2, carries_fit (Set x form lo hi) rows own h.1)
 
 gathered-longer : (a : Annotation) (rows : List Linear) (edges : List Arc) → length rows ≤ length (gathered a rows edges)
 gathered-longer a rows [] = omega arith

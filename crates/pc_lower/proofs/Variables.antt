@@ -1,21 +1,21 @@
 -- Which variables the rows of a need have.
-use Rattle.std.proofs.Common.{◌≡◌, ℕ, suc, zero, ◌≤◌, List, [], ◌∷◌, length, set, sym, refl, subst, cond, Bool, true, false, arith}
+use Rattle.std.proofs.Common.{◌≡◌, Some, ℕ, suc, zero, ◌≤◌, List, [], ◌∷◌, length, set, sym, refl, subst, cond, Bool, true, false, arith}
 use Rattle.std.specs.Prelude.{not, filter, slice_get, IfSome}
 use Rattle.std.specs.List.{AllByRecursion as Each}
 use Rattle.pc_rows.specs.Linear.{Linear, IsOver, first_of}
 use Rattle.pc_rows.specs.Joins.{is_covered, joined}
 use Rattle.pc_rows.proofs.Joining.{each_join, joined_each}
 use Rattle.pc_rows.proofs.Only.{first_is_over, substituted_is_over}
-use Rattle.pc_syntax.specs.Machine.{end_of}
-use Rattle.pc_graph.specs.declared.point.PointInfo.{PointInfo}
-use Rattle.pc_graph.specs.declared.what.What.{What}
-use Rattle.pc_graph.specs.declared.what.What.TheVariants.{Enter, Test, Set, Check}
-use Rattle.pc_graph.specs.Arc.{Arc, arc}
-use Rattle.pc_graph.specs.Carry.{back_all, owes}
-use Rattle.pc_graph.specs.Exact.{Annotation}
-use Rattle.pc_graph.specs.Flow.{Flow}
-use Rattle.pc_graph.specs.Shape.{WhatIsOver, LeadsUp, IsGraph}
-use Rattle.pc_graph.proofs.Entries.{to_start}
+use Rattle.pc_language.specs.Ends.{end_of}
+use Rattle.pc_flow.specs.declared.point.PointInfo.{PointInfo}
+use Rattle.pc_flow.specs.declared.what.What.{What}
+use Rattle.pc_flow.specs.declared.what.What.TheVariants.{Enter, Test, Set, Check}
+use Rattle.pc_flow.specs.Arc.{Arc, arc}
+use Rattle.pc_flow.specs.Carry.{back_all, owes}
+use Rattle.pc_flow.specs.Exact.{Annotation}
+use Rattle.pc_flow.specs.Flow.{Flow}
+use Rattle.pc_flow.specs.Shape.{WhatIsOver, LeadsUp, IsGraph}
+use Rattle.pc_flow.proofs.Entries.{to_start}
 use Rattle.pc_lower.specs.Annotation.{rows_at, AreOver, is_head}
 use Rattle.pc_lower.specs.Need.{asked, leaving, gathered, needed_at, at_heads, filled, filled_below, need}
 use Rattle.pc_lower.specs.Laws.{NeedIsComplete}
@@ -63,7 +63,7 @@ back_over n (Enter params) (r ∷ rows) over h = (fewer_over params n (first_of 
 back_over n (Test own) (r ∷ rows) over h = (h.0, back_over n (Test own) rows over h.1)
 back_over n (Check own) (r ∷ rows) over h = (h.0, back_over n (Check own) rows over h.1)
 back_over n (Set x form lo hi) (r ∷ rows) over h =
-    (substituted_is_over n r form x (end_of lo) (end_of hi) h.0 over.1, back_over n (Set x form lo hi) rows over h.1)
+    (substituted_is_over n r form x (Some (end_of lo)) (Some (end_of hi)) h.0 over.1, back_over n (Set x form lo hi) rows over h.1)
 
 asked_over : (n : ℕ) (w : What) (rows : List Linear) → WhatIsOver n w → Each (IsOver n) rows → Each (IsOver n) (asked w rows)
 asked_over n (Enter params) rows over h = back_over n (Enter params) rows over h

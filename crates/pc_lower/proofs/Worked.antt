@@ -1,11 +1,11 @@
 -- Needs at worked graphs: x is variable 0 and y variable 1.
 use Rattle.std.proofs.Common.{◌≡◌, ℤ, pos, negsuc, List, [], ◌∷◌, Bool, true, false, map, refl}
-use Rattle.pc_grammar.specs.declared.tree.Bound.TheVariants.{At}
+use Rattle.pc_language.specs.declared.choice.Bound.TheVariants.{At}
 use Rattle.pc_rows.specs.Linear.{Linear}
-use Rattle.pc_graph.specs.declared.point.PointInfo.{PointInfo}
-use Rattle.pc_graph.specs.declared.what.What.TheVariants.{Enter, Test, Set, Check}
-use Rattle.pc_graph.specs.Arc.{Arc, arc}
-use Rattle.pc_graph.specs.Flow.{Flow}
+use Rattle.pc_flow.specs.declared.point.PointInfo.{PointInfo}
+use Rattle.pc_flow.specs.declared.what.What.TheVariants.{Enter, Test, Set, Check}
+use Rattle.pc_flow.specs.Arc.{Arc, arc}
+use Rattle.pc_flow.specs.Flow.{Flow}
 use Rattle.pc_lower.specs.Need.{need}
 use Rattle.pc_lower.specs.Operations.{Carries, Joins, operations}
 

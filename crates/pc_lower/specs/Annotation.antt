@@ -4,7 +4,7 @@ use Rattle.std.specs.List.{AllByRecursion as Each}
 use Rattle.std.specs.Option.{option_map_or}
 use Rattle.pc_rows.specs.Linear.{Linear, IsOver}
 use Rattle.pc_rows.specs.declared.rows.TheConstants.{ROWS}
-use Rattle.pc_graph.specs.declared.point.PointInfo.{PointInfo}
+use Rattle.pc_flow.specs.declared.point.PointInfo.{PointInfo}
 
 -- the rows of point p
 abbrev pub rows_at : List (List Linear) → ℕ → List Linear

@@ -3,12 +3,12 @@ use Rattle.std.specs.Prelude.{◌≡◌, true, false, List, ◌++◌, length, Re
 use Rattle.std.specs.List.{AllByRecursion as Each}
 use Rattle.pc_rows.specs.Linear.{Linear, IsOver}
 use Rattle.pc_rows.specs.Joins.{is_covered}
-use Rattle.pc_graph.specs.Arc.{Arc}
-use Rattle.pc_graph.specs.Carry.{owes, test_rows}
-use Rattle.pc_graph.specs.Exact.{Annotation, IsPaid, IsOwed}
-use Rattle.pc_graph.specs.Flow.{Flow}
-use Rattle.pc_graph.specs.Lists.{In}
-use Rattle.pc_graph.specs.Shape.{IsGraph}
+use Rattle.pc_flow.specs.Arc.{Arc}
+use Rattle.pc_flow.specs.Carry.{owes, test_rows}
+use Rattle.pc_flow.specs.Exact.{Annotation, IsPaid, IsOwed}
+use Rattle.pc_flow.specs.Flow.{Flow}
+use Rattle.pc_flow.specs.Lists.{In}
+use Rattle.pc_flow.specs.Shape.{IsGraph}
 use Rattle.pc_lower.specs.declared.fault.CandidateFault.{CandidateFault}
 use Rattle.pc_lower.specs.declared.fault.CandidateFault.TheVariants.{Past, Full, NoMemory}
 use Rattle.pc_lower.specs.Annotation.{rows_at, AreOver, is_head, NoHeads}

@@ -2,13 +2,13 @@
 use Rattle.std.specs.Prelude.{◌≡◌, ◌==◌, ℕ, zero, suc, false, true, not, if◌then◌else◌, List, [], ◌∷◌, length, filter, slice_set}
 use Rattle.pc_rows.specs.Linear.{Linear}
 use Rattle.pc_rows.specs.Joins.{is_covered, joined}
-use Rattle.pc_graph.specs.declared.point.PointInfo.{PointInfo}
-use Rattle.pc_graph.specs.declared.what.What.{What}
-use Rattle.pc_graph.specs.declared.what.What.TheVariants.{Enter, Test, Set, Check}
-use Rattle.pc_graph.specs.Arc.{Arc}
-use Rattle.pc_graph.specs.Carry.{owes}
-use Rattle.pc_graph.specs.Exact.{Annotation}
-use Rattle.pc_graph.specs.Flow.{Flow}
+use Rattle.pc_flow.specs.declared.point.PointInfo.{PointInfo}
+use Rattle.pc_flow.specs.declared.what.What.{What}
+use Rattle.pc_flow.specs.declared.what.What.TheVariants.{Enter, Test, Set, Check}
+use Rattle.pc_flow.specs.Arc.{Arc}
+use Rattle.pc_flow.specs.Carry.{owes}
+use Rattle.pc_flow.specs.Exact.{Annotation}
+use Rattle.pc_flow.specs.Flow.{Flow}
 use Rattle.pc_lower.specs.Annotation.{rows_at, is_head}
 
 -- the rows that others do not cover

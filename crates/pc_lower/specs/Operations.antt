@@ -4,11 +4,11 @@ use Rattle.std.specs.List.{AllByRecursion as Each}
 use Rattle.pc_rows.specs.Linear.{Linear}
 use Rattle.pc_rows.specs.Joins.{joined}
 use Rattle.pc_rows.specs.declared.rows.TheConstants.{ROWS}
-use Rattle.pc_graph.specs.declared.what.What.{What}
-use Rattle.pc_graph.specs.Arc.{Arc}
-use Rattle.pc_graph.specs.Carry.{BackFits}
-use Rattle.pc_graph.specs.Exact.{Annotation}
-use Rattle.pc_graph.specs.Flow.{Flow}
+use Rattle.pc_flow.specs.declared.what.What.{What}
+use Rattle.pc_flow.specs.Arc.{Arc}
+use Rattle.pc_flow.specs.Carry.{BackFits}
+use Rattle.pc_flow.specs.Exact.{Annotation}
+use Rattle.pc_flow.specs.Flow.{Flow}
 use Rattle.pc_lower.specs.declared.fault.CandidateFault.{CandidateFault}
 use Rattle.pc_lower.specs.declared.fault.CandidateFault.TheVariants.{Past, Full, NoMemory}
 use Rattle.pc_lower.specs.Annotation.{rows_at, is_head}

@@ -5,7 +5,7 @@ ghost use Rattle.pc_rows.specs.declared.rows.TheConstants.{ROWS};
 ghost use Rattle.pc_lower.specs.Annotation.{rows_at, AreFew, is_head, no_rows};
 ghost use Rattle.pc_lower.specs.Need.{at_heads};
 
-use pc_graph::Graph;
+use pc_flow::Graph;
 use pc_rows::{NoMemory, Rows};
 use sqlite_items::Items;
 use std::alloc::Global;

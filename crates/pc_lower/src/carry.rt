@@ -1,12 +1,12 @@
 //! Rows carried back over an edge.
 
 ghost use Rattle.std.specs.Prelude.{◌≡◌, IfOk};
-ghost use Rattle.pc_graph.specs.Carry.{back_all};
+ghost use Rattle.pc_flow.specs.Carry.{back_all};
 ghost use Rattle.pc_lower.specs.Need.{uncovered};
 ghost use Rattle.pc_lower.specs.Operations.{Answers, carries};
 
 use crate::fault::CandidateFault;
-use pc_graph::{Edge, back};
+use pc_flow::{Edge, back};
 use pc_rows::{NoMemory, Rows, covered};
 use std::alloc::Global;
 

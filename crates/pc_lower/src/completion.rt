@@ -10,7 +10,7 @@ ghost use Rattle.pc_lower.specs.Tame.{IsTame};
 use crate::annotation::{Annotation, at_heads};
 use crate::fault::CandidateFault;
 use crate::need::needed_at;
-use pc_graph::Graph;
+use pc_flow::Graph;
 use std::alloc::Global;
 
 /// The need of a graph: the heads have the rows that are given for them, and every other point has the join of what the

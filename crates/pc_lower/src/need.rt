@@ -3,7 +3,7 @@
 ghost use Rattle.std.specs.Prelude.{◌≡◌, ◌≤◌, ◌∷◌, ◌++◌, [], length, IfOk};
 ghost use Rattle.pc_rows.specs.Joins.{joined};
 ghost use Rattle.pc_rows.specs.declared.rows.TheConstants.{ROWS};
-ghost use Rattle.pc_graph.specs.Carry.{back_all};
+ghost use Rattle.pc_flow.specs.Carry.{back_all};
 ghost use Rattle.pc_lower.specs.Annotation.{rows_at};
 ghost use Rattle.pc_lower.specs.Need.{asked, leaving, needed_at};
 ghost use Rattle.pc_lower.specs.Operations.{Joins, Answers, carries, edge_operations, edges_operations};
@@ -11,7 +11,7 @@ ghost use Rattle.pc_lower.specs.Operations.{Joins, Answers, carries, edge_operat
 use crate::annotation::{Annotation, rows_at};
 use crate::carry::{carried, uncovered};
 use crate::fault::CandidateFault;
-use pc_graph::{Edge, Graph, What};
+use pc_flow::{Edge, Graph, What};
 use pc_rows::{Rows, join};
 use std::alloc::Global;
 

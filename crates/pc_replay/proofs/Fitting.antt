@@ -1,5 +1,5 @@
 -- The tests for what has to be in range say what is meant.
-use Rattle.std.proofs.Common.{◌≡◌, ℕ, ℤ, pos, ◌+ℤ◌, ◌*ℤ◌, List, [], ◌∷◌, true, refl}
+use Rattle.std.proofs.Common.{◌≡◌, Some, ℕ, ℤ, pos, ◌+ℤ◌, ◌*ℤ◌, List, [], ◌∷◌, true, refl}
 use Rattle.std.specs.Prelude.{◌&&◌, slice_set}
 use Rattle.std.specs.List.{list_all}
 use Rattle.std.proofs.lemmas.Bool.{and_from}
@@ -9,14 +9,14 @@ use Rattle.pc_rows.specs.Substitution.{lesser, ConstantFits, CoefficientsFit, Ca
 use Rattle.pc_rows.specs.Evidence.{Proof}
 use Rattle.pc_rows.specs.Shows.{times_premise, PartsFit, TotalFits}
 use Rattle.pc_rows.proofs.Ranges.{and_is, in_is, is_in, to_test, from_test, in_all, all_in}
-use Rattle.pc_syntax.specs.Machine.{end_of}
-use Rattle.pc_graph.specs.declared.what.What.{What}
-use Rattle.pc_graph.specs.declared.what.What.TheVariants.{Enter, Test, Set, Check}
-use Rattle.pc_graph.specs.Carry.{BackFits}
+use Rattle.pc_language.specs.Ends.{end_of}
+use Rattle.pc_flow.specs.declared.what.What.{What}
+use Rattle.pc_flow.specs.declared.what.What.TheVariants.{Enter, Test, Set, Check}
+use Rattle.pc_flow.specs.Carry.{BackFits}
 use Rattle.pc_replay.specs.Ranges.{constant_fits, coefficients_fit, substitute_fits, back_fits, parts_fit, total_fits}
 use Rattle.pc_replay.proofs.Alls.{matched_if, if_matched}
 
-constant_in : (c k f lo hi : ℤ) → constant_fits c k f lo hi ≡ true → ConstantFits c k f lo hi
+constant_in : (c k f lo hi : ℤ) → constant_fits c k f lo hi ≡ true → ConstantFits c k f (Some lo) (Some hi)
 constant_in c k f lo hi h =
     let product = in_range (c *ℤ f) in
     let sum = in_range (k +ℤ c *ℤ f) in
@@ -34,7 +34,7 @@ constant_in c k f lo hi h =
       whole = is_in (k +ℤ c *ℤ f +ℤ lesser (c *ℤ lo) (c *ℤ hi)) whole.1;
     }
 
-in_constant : (c k f lo hi : ℤ) → ConstantFits c k f lo hi → constant_fits c k f lo hi ≡ true
+in_constant : (c k f lo hi : ℤ) → ConstantFits c k f (Some lo) (Some hi) → constant_fits c k f lo hi ≡ true
 in_constant c k f lo hi h =
     rw (in_is (c *ℤ f) h.product, in_is (k +ℤ c *ℤ f) h.sum, in_is (c *ℤ lo) h.low, in_is (c *ℤ hi) h.high, in_is (k +ℤ c *ℤ f +ℤ lesser (c *ℤ lo) (c *ℤ hi)) h.whole) refl
 
@@ -46,12 +46,12 @@ coefficients_in c rs x fs h =
 in_coefficients : (c : ℤ) (rs : List ℤ) (x : ℕ) (fs : List ℤ) → CoefficientsFit c rs x fs → coefficients_fit c rs x fs ≡ true
 in_coefficients c rs x fs h = and_from _ _ (all_in (scale_list c fs) h.products) (all_in (add_lists (scale_list c fs) (slice_set rs x (pos 0))) h.sums)
 
-substitute_in : (r : Linear) (x : ℕ) (form : Linear) (lo hi : ℤ) → substitute_fits r x form lo hi ≡ true → SubstituteFits r x form lo hi
+substitute_in : (r : Linear) (x : ℕ) (form : Linear) (lo hi : ℤ) → substitute_fits r x form lo hi ≡ true → SubstituteFits r x form (Some lo) (Some hi)
 substitute_in r x form lo hi h =
     let c = coefficient r x in
     let constant = constant_fits c r.constant form.constant lo hi in
     let coefficients = coefficients_fit c r.coefficients x form.coefficients in
-    matched_if (is_zero c) (constant && coefficients) (CarryFits r x form lo hi)
+    matched_if (is_zero c) (constant && coefficients) (CarryFits r x form (Some lo) (Some hi))
     (λ g.
     let k = and_is constant coefficients g in
     record {
@@ -60,12 +60,12 @@ substitute_in r x form lo hi h =
     })
     h
 
-in_substitute : (r : Linear) (x : ℕ) (form : Linear) (lo hi : ℤ) → SubstituteFits r x form lo hi → substitute_fits r x form lo hi ≡ true
+in_substitute : (r : Linear) (x : ℕ) (form : Linear) (lo hi : ℤ) → SubstituteFits r x form (Some lo) (Some hi) → substitute_fits r x form lo hi ≡ true
 in_substitute r x form lo hi h =
     let c = coefficient r x in
     let constant = constant_fits c r.constant form.constant lo hi in
     let coefficients = coefficients_fit c r.coefficients x form.coefficients in
-    if_matched (is_zero c) (constant && coefficients) (CarryFits r x form lo hi)
+    if_matched (is_zero c) (constant && coefficients) (CarryFits r x form (Some lo) (Some hi))
     (λ g. and_from constant coefficients (in_constant c r.constant form.constant lo hi g.constant) (in_coefficients c r.coefficients x form.coefficients g.coefficients))
     h
 

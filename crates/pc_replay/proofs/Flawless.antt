@@ -10,9 +10,9 @@ use Rattle.pc_rows.specs.Evidence.{Proof}
 use Rattle.pc_rows.specs.Shows.{total, TotalFits}
 use Rattle.pc_rows.proofs.Lists.{zero_is}
 use Rattle.pc_rows.proofs.Ranges.{and_is}
-use Rattle.pc_graph.specs.declared.what.What.{What}
-use Rattle.pc_graph.specs.Carry.{BackFits, back}
-use Rattle.pc_graph.proofs.Lists.{each_more}
+use Rattle.pc_flow.specs.declared.what.What.{What}
+use Rattle.pc_flow.specs.Carry.{BackFits, back}
+use Rattle.pc_flow.proofs.Lists.{each_more}
 use Rattle.pc_replay.specs.declared.flaw.Flaw.{Flaw}
 use Rattle.pc_replay.specs.declared.flaw.Flaw.TheVariants.{Past, Negative, Index}
 use Rattle.pc_replay.specs.Ranges.{back_fits, total_fits}

@@ -8,3 +8,4 @@ pub mod Turns
 pub mod Edges
 pub mod Summing
 pub mod Worked
+pub mod Lean

@@ -8,10 +8,10 @@ use Rattle.std.proofs.lemmas.Bool.Decides.{Decides-eqb}
 use Rattle.pc_rows.specs.Linear.{Linear, IsOver, is_zero}
 use Rattle.pc_rows.proofs.Lists.{zero_is}
 use Rattle.pc_rows.proofs.Ranges.{and_is}
-use Rattle.pc_graph.specs.Flow.{Flow}
-use Rattle.pc_cert.specs.declared.certificate.Annotated.{Annotated}
-use Rattle.pc_cert.specs.Certificate.{Certificate}
-use Rattle.pc_graph.proofs.Lists.{each_more}
+use Rattle.pc_flow.specs.Flow.{Flow}
+use Rattle.pc_certificate.specs.declared.certificate.Annotated.{Annotated}
+use Rattle.pc_certificate.specs.Certificate.{Certificate}
+use Rattle.pc_flow.proofs.Lists.{each_more}
 use Rattle.pc_replay.specs.Shape.{IsShaped, HasShape, is_over, are_over, is_shaped, has_shape, first_beyond}
 use Rattle.pc_replay.proofs.Alls.{each_if, if_each, none_passes, passes_none, zero_test}
 

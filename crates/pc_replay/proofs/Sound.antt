@@ -1,5 +1,5 @@
 -- Whatever the rule accepts is safe.
-use Rattle.std.proofs.Common.{◌≡◌, ℕ, ◌+◌, ◌-◌, ◌≤◌, pos, ◌≤ℤ◌, List, [], ◌∷◌, ◌++◌, map, length, get_or, refl, sym, ap, subst, ◌∙◌, arith, length-append, inl, inr}
+use Rattle.std.proofs.Common.{◌≡◌, Some, ℕ, ◌+◌, ◌-◌, ◌≤◌, pos, ◌≤ℤ◌, List, [], ◌∷◌, ◌++◌, map, length, get_or, refl, sym, ap, subst, ◌∙◌, arith, length-append, inl, inr}
 use Rattle.std.specs.Prelude.{replicate}
 use Rattle.std.specs.List.{AllByRecursion, zip}
 use Rattle.std.proofs.lemmas.Int.{ints}
@@ -10,26 +10,24 @@ use Rattle.pc_rows.proofs.Carrying.{substitution_is_exact}
 use Rattle.pc_rows.proofs.Farkas.{shown_is_met}
 use Rattle.pc_rows.proofs.First.{value_of_first, value_at_entry, zero_from_all}
 use Rattle.pc_rows.proofs.Joining.{each_left, each_right, each_join}
-use Rattle.pc_syntax.specs.Machine.{end_of}
-use Rattle.pc_syntax.specs.Values.{State}
-use Rattle.pc_graph.specs.Arc.{Arc}
-use Rattle.pc_graph.specs.declared.what.What.{What}
-use Rattle.pc_graph.specs.declared.what.What.TheVariants.{Enter, Test, Set, Check}
-use Rattle.pc_graph.specs.Carry.{back, test_rows, HasVariable, Pays}
-use Rattle.pc_graph.specs.Flow.{Flow}
-use Rattle.pc_graph.specs.Lists.{In}
-use Rattle.pc_graph.specs.Shape.{IsGraph}
-use Rattle.pc_graph.specs.Walk.{Pass, IsEntry, entered, GraphSafe}
-use Rattle.pc_graph.proofs.Bridge.{steps_correspond}
-use Rattle.pc_graph.proofs.Closed.{paid_is_safe}
-use Rattle.pc_graph.proofs.Graphs.{graph_kept}
-use Rattle.pc_graph.proofs.Lists.{each_at}
-use Rattle.pc_cert.specs.declared.certificate.Annotated.{Annotated}
-use Rattle.pc_cert.specs.Certificate.{entry_rows}
-use Rattle.pc_graph.proofs.Straights.{has_variable}
+use Rattle.pc_language.specs.Ends.{end_of}
+use Rattle.pc_rows.specs.Linear.{State}
+use Rattle.pc_flow.specs.Arc.{Arc}
+use Rattle.pc_flow.specs.declared.what.What.{What}
+use Rattle.pc_flow.specs.declared.what.What.TheVariants.{Enter, Test, Set, Check}
+use Rattle.pc_flow.specs.Carry.{back, test_rows, HasVariable, Pays}
+use Rattle.pc_flow.specs.Flow.{Flow}
+use Rattle.pc_flow.specs.Lists.{In}
+use Rattle.pc_flow.specs.Shape.{IsGraph}
+use Rattle.pc_flow.specs.Walk.{Pass, IsEntry, entered, GraphSafe}
+use Rattle.pc_flow.proofs.Closed.{paid_is_safe}
+use Rattle.pc_flow.proofs.Lists.{each_at}
+use Rattle.pc_certificate.specs.declared.certificate.Annotated.{Annotated}
+use Rattle.pc_certificate.specs.Certificate.{entry_rows}
+use Rattle.pc_flow.proofs.Assigning.{has_variable}
 use Rattle.pc_replay.specs.Accepts.{RowProved, EdgeProved, AlternativeProved}
 use Rattle.pc_replay.specs.Flaws.{asked}
-use Rattle.pc_replay.specs.Laws.{AcceptedIsSafe, AcceptedProgramsAreSafe}
+use Rattle.pc_replay.specs.Laws.{AcceptedIsSafe}
 use Rattle.pc_replay.specs.Rule.{rows_at, premises}
 use Rattle.pc_replay.specs.Shape.{IsShaped}
 use Rattle.pc_replay.proofs.Ruled.{owed_is_asked}
@@ -43,7 +41,7 @@ back_meets (Set x f lo hi) s t r has pass m =
     let low = pass.1 in
     let high = pass.2 in
     let ordered : end_of lo ≤ℤ end_of hi = omega (arith, ints) in
-    subst (λ t. Meets t r) (sym pass.3) ((substitution_is_exact r f x (end_of lo) (end_of hi) s has ordered).0 m pass.0 low high)
+    subst (λ t. Meets t r) (sym pass.3) ((substitution_is_exact r f x (Some (end_of lo)) (Some (end_of hi)) s has ordered).0 m pass.0 low high)
 
 all_back_meet : (w : What) (s t : State) (rows : List Linear) → HasVariable w s → Pass w s t → MeetsAll s (map (back w) rows) → MeetsAll t rows
 all_back_meet w s t [] has pass m = tt
@@ -131,6 +129,3 @@ pub accepted_is_safe : AcceptedIsSafe
 accepted_is_safe g c kept accepts s entry m =
     some_safe g kept s entry c.points c.variables c.alternatives
     (subst (λ n. AllByRecursion (IsShaped c.points n c.variables) c.alternatives) accepts.shape.edges accepts.shape.each) accepts.each m
-
-pub accepted_programs_are_safe : AcceptedProgramsAreSafe
-accepted_programs_are_safe p c accepts s entry m = (steps_correspond p s entry).safe.1 (accepted_is_safe _ c (graph_kept p) accepts s entry m)

@@ -1,10 +1,10 @@
 -- The rule at worked values: j is variable 0 and i variable 1.
 use Rattle.std.proofs.Common.{◌≡◌, ℕ, ℤ, pos, negsuc, List, [], ◌∷◌, refl, Some, None}
-use Rattle.pc_grammar.specs.declared.tree.Bound.TheVariants.{At}
+use Rattle.pc_language.specs.declared.choice.Bound.TheVariants.{At}
 use Rattle.pc_rows.specs.declared.proof.Part.{Part}
 use Rattle.pc_rows.specs.Linear.{Linear}
 use Rattle.pc_rows.specs.Evidence.{Proof}
-use Rattle.pc_graph.specs.declared.what.What.TheVariants.{Set, Check}
+use Rattle.pc_flow.specs.declared.what.What.TheVariants.{Set, Check}
 use Rattle.pc_replay.specs.declared.flaw.Flaw.TheVariants.{Past, Negative, Index, Left, NotBelow}
 use Rattle.pc_replay.specs.Flaws.{flaw, asked, row_flaw}
 use Rattle.pc_replay.specs.Shape.{first_beyond}

@@ -4,12 +4,12 @@ use Rattle.std.specs.List.{AllByRecursion, zip}
 use Rattle.pc_rows.specs.Linear.{Linear, IsOver}
 use Rattle.pc_rows.specs.Evidence.{Proof}
 use Rattle.pc_rows.specs.Shows.{Shows, TotalFits}
-use Rattle.pc_graph.specs.declared.what.What.{What}
-use Rattle.pc_graph.specs.Arc.{Arc}
-use Rattle.pc_graph.specs.Carry.{BackFits, back, owes}
-use Rattle.pc_graph.specs.Flow.{Flow}
-use Rattle.pc_cert.specs.declared.certificate.Annotated.{Annotated}
-use Rattle.pc_cert.specs.Certificate.{Certificate}
+use Rattle.pc_flow.specs.declared.what.What.{What}
+use Rattle.pc_flow.specs.Arc.{Arc}
+use Rattle.pc_flow.specs.Carry.{BackFits, back, owes}
+use Rattle.pc_flow.specs.Flow.{Flow}
+use Rattle.pc_certificate.specs.declared.certificate.Annotated.{Annotated}
+use Rattle.pc_certificate.specs.Certificate.{Certificate}
 use Rattle.pc_replay.specs.Flaws.{asked}
 use Rattle.pc_replay.specs.Rule.{rows_at, premises}
 use Rattle.pc_replay.specs.Shape.{HasShape}

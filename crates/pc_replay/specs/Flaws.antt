@@ -5,9 +5,9 @@ use Rattle.std.specs.Prelude.{not}
 use Rattle.pc_rows.specs.Linear.{Linear, is_zero}
 use Rattle.pc_rows.specs.Evidence.{Proof}
 use Rattle.pc_rows.specs.Shows.{total}
-use Rattle.pc_graph.specs.declared.what.What.{What}
-use Rattle.pc_graph.specs.declared.what.What.TheVariants.{Enter, Test, Set, Check}
-use Rattle.pc_graph.specs.Carry.{back}
+use Rattle.pc_flow.specs.declared.what.What.{What}
+use Rattle.pc_flow.specs.declared.what.What.TheVariants.{Enter, Test, Set, Check}
+use Rattle.pc_flow.specs.Carry.{back}
 use Rattle.pc_replay.specs.declared.flaw.Flaw.{Flaw}
 use Rattle.pc_replay.specs.declared.flaw.Flaw.TheVariants.{Past, Negative, Index, Left, NotBelow}
 use Rattle.pc_replay.specs.Ranges.{back_fits, total_fits}

@@ -1,19 +1,17 @@
 -- What the rule of the replayer promises.
 use Rattle.std.specs.Prelude.{◌≡◌, ◌↔◌, List, map, None}
+use Rattle.std.specs.List.{AllByRecursion}
 use Rattle.pc_rows.specs.Linear.{Linear, MeetsSome}
 use Rattle.pc_rows.specs.Evidence.{Proof}
-use Rattle.pc_syntax.specs.Machine.{Safe}
-use Rattle.pc_syntax.specs.Values.{State}
-use Rattle.pc_syntax.specs.declared.program.Program.{Program}
-use Rattle.pc_graph.specs.declared.what.What.{What}
-use Rattle.pc_graph.specs.Carry.{back, owes}
-use Rattle.pc_graph.specs.Flow.{Flow}
-use Rattle.pc_graph.specs.Lowering.{graph}
-use Rattle.pc_graph.specs.Shape.{IsGraph}
-use Rattle.pc_graph.specs.Walk.{IsEntry, GraphSafe}
+use Rattle.pc_rows.specs.Linear.{State}
+use Rattle.pc_flow.specs.declared.what.What.{What}
+use Rattle.pc_flow.specs.Carry.{back, owes}
+use Rattle.pc_flow.specs.Flow.{Flow}
+use Rattle.pc_flow.specs.Shape.{IsGraph}
+use Rattle.pc_flow.specs.Walk.{IsEntry, GraphSafe}
 use Rattle.pc_replay.specs.declared.ruling.Ruling.TheVariants.{Accepted}
 use Rattle.pc_replay.specs.Accepts.{Accepts, RowProved}
-use Rattle.pc_cert.specs.Certificate.{Certificate, condition_of}
+use Rattle.pc_certificate.specs.Certificate.{Certificate, condition_of, IsCertificate, AreLean}
 use Rattle.pc_replay.specs.Flaws.{asked, row_flaw}
 use Rattle.pc_replay.specs.Rule.{ruling}
 
@@ -37,7 +35,6 @@ IsSafe g c = (s : State) → IsEntry g s → MeetsSome s (condition_of c) → Gr
 abbrev pub AcceptedIsSafe : Type 0
 AcceptedIsSafe = (g : Flow) (c : Certificate) → IsGraph g → Accepts g c → IsSafe g c
 
--- so is what is right for the graph of a program
-abbrev pub AcceptedProgramsAreSafe : Type 0
-AcceptedProgramsAreSafe =
-    (p : Program) (c : Certificate) → Accepts (graph p) c → (s : State) → IsEntry (graph p) s → MeetsSome s (condition_of c) → Safe p s
+-- whatever is right for a graph has few proofs or few premises at each edge
+abbrev pub AcceptedIsLean : Type 0
+AcceptedIsLean = (g : Flow) (c : Certificate) → IsCertificate c → Accepts g c → AllByRecursion AreLean c.alternatives

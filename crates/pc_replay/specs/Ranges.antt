@@ -7,9 +7,9 @@ use Rattle.pc_rows.specs.Linear.{Linear, coefficient, is_zero, in_range, is_in_r
 use Rattle.pc_rows.specs.Substitution.{lesser}
 use Rattle.pc_rows.specs.Evidence.{Proof}
 use Rattle.pc_rows.specs.Shows.{times_premise}
-use Rattle.pc_syntax.specs.Machine.{end_of}
-use Rattle.pc_graph.specs.declared.what.What.{What}
-use Rattle.pc_graph.specs.declared.what.What.TheVariants.{Enter, Test, Set, Check}
+use Rattle.pc_language.specs.Ends.{end_of}
+use Rattle.pc_flow.specs.declared.what.What.{What}
+use Rattle.pc_flow.specs.declared.what.What.TheVariants.{Enter, Test, Set, Check}
 
 -- with c for the coefficient of the variable: what makes the constant of a row that is carried back over an assignment
 abbrev pub constant_fits : ℤ → ℤ → ℤ → ℤ → ℤ → Bool

@@ -3,11 +3,11 @@ use Rattle.std.specs.Prelude.{◌==◌, ℕ, ◌+◌, List, [], ◌∷◌, ◌++
 use Rattle.std.specs.List.{zip}
 use Rattle.pc_rows.specs.Linear.{Linear}
 use Rattle.pc_rows.specs.Evidence.{Proof}
-use Rattle.pc_graph.specs.Arc.{Arc}
-use Rattle.pc_graph.specs.Carry.{owes, test_rows}
-use Rattle.pc_graph.specs.Flow.{Flow}
-use Rattle.pc_cert.specs.declared.certificate.Annotated.{Annotated}
-use Rattle.pc_cert.specs.Certificate.{Certificate}
+use Rattle.pc_flow.specs.Arc.{Arc}
+use Rattle.pc_flow.specs.Carry.{owes, test_rows}
+use Rattle.pc_flow.specs.Flow.{Flow}
+use Rattle.pc_certificate.specs.declared.certificate.Annotated.{Annotated}
+use Rattle.pc_certificate.specs.Certificate.{Certificate}
 use Rattle.pc_replay.specs.declared.flaw.Flaw.{Flaw}
 use Rattle.pc_replay.specs.declared.flaw.Flaw.TheVariants as flaw
 use Rattle.pc_replay.specs.declared.ruling.Ruling.{Ruling}

@@ -2,9 +2,9 @@
 use Rattle.std.specs.Prelude.{◌≡◌, ◌==◌, ◌&&◌, not, ℕ, Bool, List, length, drop, Option}
 use Rattle.std.specs.List.{AllByRecursion, list_all, position_from}
 use Rattle.pc_rows.specs.Linear.{Linear, IsOver, is_zero}
-use Rattle.pc_graph.specs.Flow.{Flow}
-use Rattle.pc_cert.specs.declared.certificate.Annotated.{Annotated}
-use Rattle.pc_cert.specs.Certificate.{Certificate}
+use Rattle.pc_flow.specs.Flow.{Flow}
+use Rattle.pc_certificate.specs.declared.certificate.Annotated.{Annotated}
+use Rattle.pc_certificate.specs.Certificate.{Certificate}
 
 -- an alternative for so many points, edges and variables: rows for each point, proofs for each edge, and no row has a further variable
 pub record IsShaped (points edges variables : ℕ) (a : Annotated) : Type 0 where

@@ -1,7 +1,7 @@
 //! The ruling on an edge.
 
 ghost use Rattle.std.specs.Prelude.{◌≡◌, ◌<◌, ◌≤◌, ◌*◌, ◌++◌, length, slice_get, Some};
-ghost use Rattle.pc_graph.specs.Carry.{test_rows, owes};
+ghost use Rattle.pc_flow.specs.Carry.{test_rows, owes};
 ghost use Rattle.pc_replay.specs.Flaws.{asked, row_flaw};
 ghost use Rattle.pc_replay.specs.Rule.{edge_ruling};
 
@@ -9,8 +9,8 @@ use crate::flaw::Flaw;
 use crate::lists::rows_at;
 use crate::proof::flaw;
 use crate::ruling::Ruling;
-use pc_cert::Annotated;
-use pc_graph::{Edge, What, back};
+use pc_certificate::Annotated;
+use pc_flow::{Edge, What, back};
 use pc_rows::{Past, Proof, ROWS, Row, Rows};
 
 /// Row `k` of those that an edge has to show: an assertion its own first, and then those of its

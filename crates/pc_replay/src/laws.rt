@@ -1,6 +1,6 @@
 //! What the rule of the replayer promises, as contracts of functions that do nothing.
 
-ghost use Rattle.pc_replay.specs.Laws.{RuleIsMeant, FlawsAreMeant, OwedIsAsked, AcceptedIsSafe, AcceptedProgramsAreSafe};
+ghost use Rattle.pc_replay.specs.Laws.{RuleIsMeant, FlawsAreMeant, OwedIsAsked, AcceptedIsLean, AcceptedIsSafe};
 
 /// The rule accepts exactly where nothing is wrong, and its tests say what is meant.
 pub fn rule_is_meant()
@@ -15,8 +15,8 @@ pub fn accepted_is_safe()
     ensures { AcceptedIsSafe }
 {}
 
-/// Where a certificate is right for a program's graph, the program is safe from every entry state
-/// that meets the certificate's condition.
-pub fn accepted_programs_are_safe()
-    ensures { AcceptedProgramsAreSafe }
+/// Where a certificate is right for a graph, no edge has both more proofs and more premises than a
+/// point may have rows: a test alone adds premises, and an assertion alone adds rows that are owed.
+pub fn accepted_is_lean()
+    ensures { AcceptedIsLean }
 {}

@@ -14,6 +14,6 @@ mod ruling;
 mod shape;
 mod totals;
 
-pub use laws::{accepted_is_safe, accepted_programs_are_safe, rule_is_meant};
+pub use laws::{accepted_is_lean, accepted_is_safe, rule_is_meant};
 pub use replay::accept;
 pub use ruling::Ruling;

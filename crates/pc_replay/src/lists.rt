@@ -3,7 +3,7 @@
 ghost use Rattle.std.specs.Prelude.{◌≡◌, ◌<◌, length, slice_get, Some};
 ghost use Rattle.pc_replay.specs.Rule.{rows_at};
 
-use pc_cert::Annotated;
+use pc_certificate::Annotated;
 use pc_rows::{Proof, Rows};
 
 /// The rows of point `p`.

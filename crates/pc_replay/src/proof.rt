@@ -3,13 +3,13 @@
 ghost use Rattle.std.specs.Prelude.{◌≡◌, ◌<◌, ◌++◌, length, slice_get, Some, OkIff, false};
 ghost use Rattle.std.specs.List.{AllByRecursion};
 ghost use Rattle.pc_rows.specs.Shows.{total, TotalFits};
-ghost use Rattle.pc_graph.specs.Carry.{test_rows};
+ghost use Rattle.pc_flow.specs.Carry.{test_rows};
 ghost use Rattle.pc_replay.specs.Flaws.{is_signed, names_premises, flaw};
 ghost use Rattle.pc_replay.specs.Totals.{AddPartsIs};
 
 use crate::flaw::Flaw;
 use crate::totals::Total;
-use pc_graph::What;
+use pc_flow::What;
 use pc_rows::{Parts, Past, Proof, Row, Rows};
 
 /// Premise `i`: the rows of the edge's source come first, and then those of its test.

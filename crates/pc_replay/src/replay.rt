@@ -1,7 +1,7 @@
 //! The ruling on a certificate.
 
 ghost use Rattle.std.specs.Prelude.{◌≡◌, ◌↔◌, length};
-ghost use Rattle.pc_graph.specs.Shape.{IsGraph};
+ghost use Rattle.pc_flow.specs.Shape.{IsGraph};
 ghost use Rattle.pc_replay.specs.Rule.{alternative_ruling, ruling};
 ghost use Rattle.pc_replay.specs.Accepts.{Accepts};
 ghost use Rattle.pc_replay.specs.Laws.{IsSafe};
@@ -10,8 +10,8 @@ use crate::edge::edge;
 use crate::lists::{proofs_at, rows_at};
 use crate::ruling::Ruling;
 use crate::shape::{first_beyond, has_shape};
-use pc_cert::{Annotated, Certificate};
-use pc_graph::Graph;
+use pc_certificate::{Annotated, Certificate};
+use pc_flow::Graph;
 
 /// The ruling on alternative `n`.
 fn alternative(g: &Graph, n: u32, a: &Annotated) -> Ruling

@@ -4,8 +4,8 @@ ghost use Rattle.std.specs.Prelude.{◌≡◌};
 ghost use Rattle.std.specs.List.{list_all};
 ghost use Rattle.pc_replay.specs.Shape.{is_over, first_beyond, are_over, is_shaped, has_shape};
 
-use pc_cert::{Annotated, Certificate};
-use pc_graph::Graph;
+use pc_certificate::{Annotated, Certificate};
+use pc_flow::Graph;
 use pc_rows::{Row, Rows, VARIABLES};
 
 /// Whether no coefficient from variable `n` on is other than 0.

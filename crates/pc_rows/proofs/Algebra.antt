@@ -41,7 +41,7 @@ scale_scale : (k m : ℤ) (a : List ℤ) → scale_list k (scale_list m a) ≡ s
 scale_scale k m [] = refl
 scale_scale k m (a ∷ as') = let e = mul_assoc k m a in let f = scale_scale k m as' in cc
 
-scale_one : (a : List ℤ) → scale_list (pos 1) a ≡ a
+pub scale_one : (a : List ℤ) → scale_list (pos 1) a ≡ a
 scale_one [] = refl
 scale_one (a ∷ as') = let e : pos 1 *ℤ a ≡ a = omega (arith, ints) in let f = scale_one as' in cc
 

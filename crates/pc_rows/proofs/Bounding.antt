@@ -1,13 +1,13 @@
 -- Rows whose numbers are small: what is made of them is in range.
-use Rattle.std.proofs.Common.{ℕ, zero, suc, ◌+◌, ◌*◌, ◌^◌, ◌<◌, ◌≤◌, ℤ, pos, ◌+ℤ◌, ◌*ℤ◌, neg_ℤ, arith, List, [], ◌∷◌, get_or, set, Bool, true, false, cond}
+use Rattle.std.proofs.Common.{ℕ, zero, suc, ◌+◌, ◌*◌, ◌^◌, ◌<◌, ◌≤◌, ℤ, pos, ◌+ℤ◌, ◌*ℤ◌, neg_ℤ, arith, List, [], ◌∷◌, get_or, set, Bool, true, false, cond, Option, Some, None}
 use Rattle.std.specs.Prelude.{int_lt, unsigned_abs}
 use Rattle.std.specs.Bool.{MatchBool}
 use Rattle.std.proofs.lemmas.Int.{ints, unsigned_abs-mul}
 use Rattle.std.proofs.Math.Nat.{mul-le-mul}
 use Rattle.pc_rows.specs.Linear.{Linear, InRange, AllInRange, add_lists, scale_list, negate_list, coefficient, is_zero}
 use Rattle.pc_rows.specs.Bounds.{IsWithin, AreWithin, Within}
-use Rattle.pc_rows.specs.Substitution.{lesser, ConstantFits, CoefficientsFit, CarryFits}
-use Rattle.pc_rows.specs.Laws.{SmallSubstitutionFits}
+use Rattle.pc_rows.specs.Substitution.{lesser, least_product, needs_open_end, ProductFits, ConstantFits, CoefficientsFit, CarryFits}
+use Rattle.pc_rows.specs.Laws.{EndIsWithin, SmallSubstitutionFits}
 
 pub product_within : (m n : ℕ) (a b : ℤ) → IsWithin m a → IsWithin n b → IsWithin (m * n) (a *ℤ b)
 product_within m n a b h g = omega (arith, unsigned_abs-mul a b, mul-le-mul h g)
@@ -62,20 +62,28 @@ set_within m [] k z h g = tt
 set_within m (y ∷ zs) zero z h g = (g, h.1)
 set_within m (y ∷ zs) (suc k) z h g = (h.0, set_within m zs k z h.1 g)
 
-constant_fits : (m : ℕ) (c constant of_form lo hi : ℤ) → m + m * m + m * m < 2 ^ 127 →
-    IsWithin m c → IsWithin m constant → IsWithin m of_form → IsWithin m lo → IsWithin m hi → ConstantFits c constant of_form lo hi
+product_fits : (m : ℕ) (c : ℤ) (end : Option ℤ) → m * m < 2 ^ 127 → IsWithin m c → EndIsWithin m end → ProductFits c end
+product_fits m c None lt hc h = tt
+product_fits m c (Some e) lt hc h = within_in_range (m * m) (c *ℤ e) lt (product_within m m c e hc h)
+
+pub least_within : (m : ℕ) (c : ℤ) (lo hi : Option ℤ) → IsWithin m c → EndIsWithin m lo → EndIsWithin m hi → IsWithin (m * m) (least_product c lo hi)
+least_within m c None None hc hl hh = omega arith
+least_within m c (Some lo) None hc hl hh = product_within m m c lo hc hl
+least_within m c None (Some hi) hc hl hh = product_within m m c hi hc hh
+least_within m c (Some lo) (Some hi) hc hl hh = lesser_within (m * m) (c *ℤ lo) (c *ℤ hi) (product_within m m c lo hc hl) (product_within m m c hi hc hh)
+
+constant_fits : (m : ℕ) (c constant of_form : ℤ) (lo hi : Option ℤ) → m + m * m + m * m < 2 ^ 127 →
+    IsWithin m c → IsWithin m constant → IsWithin m of_form → EndIsWithin m lo → EndIsWithin m hi → ConstantFits c constant of_form lo hi
 constant_fits m c constant of_form lo hi lt hc hr hf hl hh =
     let product = product_within m m c of_form hc hf in
-    let low = product_within m m c lo hc hl in
-    let high = product_within m m c hi hc hh in
     let sum = sum_within m (m * m) constant (c *ℤ of_form) hr product in
     record {
       product = within_in_range (m * m) (c *ℤ of_form) (omega arith) product;
       sum = within_in_range (m + m * m) (constant +ℤ c *ℤ of_form) (omega arith) sum;
-      low = within_in_range (m * m) (c *ℤ lo) (omega arith) low;
-      high = within_in_range (m * m) (c *ℤ hi) (omega arith) high;
-      whole = within_in_range (m + m * m + m * m) (constant +ℤ c *ℤ of_form +ℤ lesser (c *ℤ lo) (c *ℤ hi)) lt
-          (sum_within (m + m * m) (m * m) (constant +ℤ c *ℤ of_form) (lesser (c *ℤ lo) (c *ℤ hi)) sum (lesser_within (m * m) (c *ℤ lo) (c *ℤ hi) low high));
+      low = product_fits m c lo (omega arith) hc hl;
+      high = product_fits m c hi (omega arith) hc hh;
+      whole = within_in_range (m + m * m + m * m) (constant +ℤ c *ℤ of_form +ℤ least_product c lo hi) lt
+          (sum_within (m + m * m) (m * m) (constant +ℤ c *ℤ of_form) (least_product c lo hi) sum (least_within m c lo hi hc hl hh));
     }
 
 coefficients_fit : (m : ℕ) (c : ℤ) (of_row : List ℤ) (x : ℕ) (of_form : List ℤ) → m + m * m + m * m < 2 ^ 127 →
@@ -89,8 +97,8 @@ coefficients_fit m c of_row x of_form lt hc hr hf =
           (add_within (m * m) m (scale_list c of_form) (set of_row x (pos 0)) products (set_within m of_row x (pos 0) hr zero_is_within));
     }
 
-carry_fits : (m : ℕ) (r form : Linear) (x : ℕ) (lo hi : ℤ) → m + m * m + m * m < 2 ^ 127 →
-    Within m r → Within m form → IsWithin m lo → IsWithin m hi → CarryFits r x form lo hi
+carry_fits : (m : ℕ) (r form : Linear) (x : ℕ) (lo hi : Option ℤ) → m + m * m + m * m < 2 ^ 127 →
+    Within m r → Within m form → EndIsWithin m lo → EndIsWithin m hi → CarryFits r x form lo hi
 carry_fits m r form x lo hi lt hr hf hl hh =
     let hc = at_within m r.coefficients x hr.coefficients in
     record {
@@ -98,10 +106,11 @@ carry_fits m r form x lo hi lt hr hf hl hh =
       coefficients = coefficients_fit m (coefficient r x) r.coefficients x form.coefficients lt hc hr.coefficients hf.coefficients;
     }
 
-fits_by : (F : Type 0) (t : Bool) → F → MatchBool t (Unit {0}) F
-fits_by F true f = tt
-fits_by F false f = f
+fits_by : (F : Type 0) (t u : Bool) → F → MatchBool t (Unit {0}) (MatchBool u (Unit {0}) F)
+fits_by F true u f = tt
+fits_by F false true f = tt
+fits_by F false false f = f
 
 pub small_substitution_fits : SmallSubstitutionFits
 small_substitution_fits bound r form x lo hi lt hr hf hl hh =
-    fits_by (CarryFits r x form lo hi) (is_zero (coefficient r x)) (carry_fits bound r form x lo hi lt hr hf hl hh)
+    fits_by (CarryFits r x form lo hi) (is_zero (coefficient r x)) (needs_open_end (coefficient r x) lo hi) (carry_fits bound r form x lo hi lt hr hf hl hh)

@@ -1,7 +1,7 @@
 -- What is left of a row where the variables from some number on are 0.
-use Rattle.std.proofs.Common.{◌≡◌, ℕ, zero, suc, ◌+◌, ◌≤◌, ℤ, pos, ◌+ℤ◌, ◌*ℤ◌, refl, sym, ap, ◌∙◌, arith, List, [], ◌∷◌, ◌++◌, length, set, replicate}
+use Rattle.std.proofs.Common.{◌≡◌, ℕ, zero, suc, ◌<◌, ◌≤◌, ℤ, pos, ◌+ℤ◌, ◌*ℤ◌, refl, sym, ap, ◌∙◌, arith, List, [], ◌∷◌, ◌++◌, length, get_or, replicate}
 use Rattle.std.proofs.Math.IntN.{*ℤ-zero, zero-*ℤ, +ℤ_idl}
-use Rattle.pc_rows.specs.Linear.{AllInRange, dot, value, zero_from}
+use Rattle.pc_rows.specs.Linear.{dot, value, zero_from}
 use Rattle.pc_rows.specs.Laws.{ValueOfFirst, ZeroFromEntry, ValueAtEntry}
 
 -- a coefficient of 0, or a variable that is 0
@@ -50,21 +50,14 @@ value_at_entry n m r s e =
     ∙ ap (λ t. value r t) (zero_from_all n s (omega arith))
     ∙ ap (λ d. r.constant +ℤ d) (sym (dot-zeros m r.coefficients s))
 
-next_set : (n : ℕ) (zs : List ℤ) → zero_from (suc n) (set zs n (pos 0)) ≡ zero_from n zs
-next_set n [] = refl
-next_set zero (z ∷ zs) = refl
-next_set (suc n) (z ∷ zs) = ap (λ xs. z ∷ xs) (next_set n zs)
-
--- place by place: the place n is set to 0
-pub zero_from_next : (n : ℕ) (zs : List ℤ) → zero_from (n + 1) (set zs n (pos 0)) ≡ zero_from n zs
-zero_from_next n zs = let e : n + 1 ≡ suc n = omega arith in ap (λ k. zero_from k (set zs n (pos 0))) e ∙ next_set n zs
+-- and before it nothing changes
+pub zero_from_low : (n : ℕ) (zs : List ℤ) (k : ℕ) → k < n → get_or (zero_from n zs) k (pos 0) ≡ get_or zs k (pos 0)
+zero_from_low n [] k lt = refl
+zero_from_low zero (z ∷ zs) k lt = absurd (omega arith)
+zero_from_low (suc n) (z ∷ zs) zero lt = refl
+zero_from_low (suc n) (z ∷ zs) (suc k) lt = zero_from_low n zs k (omega arith)
 
 pub zero_from_long : (n : ℕ) (zs : List ℤ) → length (zero_from n zs) ≡ length zs
 zero_from_long n [] = refl
 zero_from_long zero (z ∷ zs) = ap suc (zero_from_long zero zs)
 zero_from_long (suc n) (z ∷ zs) = ap suc (zero_from_long n zs)
-
-pub zero_from_in_range : (n : ℕ) (zs : List ℤ) → AllInRange zs → AllInRange (zero_from n zs)
-zero_from_in_range n [] h = tt
-zero_from_in_range zero (z ∷ zs) h = (omega arith, zero_from_in_range zero zs h.1)
-zero_from_in_range (suc n) (z ∷ zs) h = (h.0, zero_from_in_range n zs h.1)

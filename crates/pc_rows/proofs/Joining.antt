@@ -10,6 +10,7 @@ use Rattle.std.proofs.lemmas.Option.{slice_get_within, get_or_from_slice_get}
 use Rattle.std.proofs.lemmas.List.{drop_more, drop_all}
 use Rattle.pc_rows.specs.declared.rows.RowsFault.{RowsFault}
 use Rattle.pc_rows.specs.declared.rows.RowsFault.TheVariants.{Full, NoMemory}
+use Rattle.pc_rows.specs.declared.rows.TheConstants.{ROWS}
 use Rattle.pc_rows.specs.Linear.{Linear, State, dot, Meets, MeetsAll, is_zero}
 use Rattle.pc_rows.specs.Bounds.{Within}
 use Rattle.pc_rows.specs.Joins.{IsAlways, IsAtMost, SomeIsAtMost, IsCovered, is_always, is_at_most, is_covered, with_row, joined, AddIs, JoinIs}
@@ -181,6 +182,6 @@ joined-next rows more i r e =
 pub joined-done : (rows more : List Linear) (i : ℕ) → length more ≤ i → joined rows (drop i more) ≡ rows
 joined-done rows more i h = rw (drop_all i more h)
 
-pub err_is : (a b all : List Linear) (i : ℕ) (r : Linear) (new : List Linear) (e : RowsFault) → slice_get b i ≡ Some r → joined all (drop i b) ≡ joined a b → AddIs all r (Err e) new → JoinIs a b (Err e)
-err_is a b all i r new Full at rest h = rw (← rest, joined-next all b i r at) (let l = joined-longer (with_row all r) (drop (i + 1) b) in omega arith)
-err_is a b all i r new NoMemory at rest h = tt
+pub err_is : (a b all : List Linear) (i : ℕ) (r : Linear) (new : List Linear) (e : RowsFault) → slice_get b i ≡ Some r → joined all (drop i b) ≡ joined a b → length (joined a b) ≤ ROWS → AddIs all r (Err e) new → JoinIs a b (Err e)
+err_is a b all i r new Full at rest most h = rw (← rest, joined-next all b i r at) (let l = joined-longer (with_row all r) (drop (i + 1) b) in omega arith)
+err_is a b all i r new NoMemory at rest most h = most

@@ -1,16 +1,17 @@
 -- Rows over the first variables: no operation brings a variable that its rows have not.
-use Rattle.std.proofs.Common.{◌≡◌, ℕ, zero, suc, ◌≤◌, ℤ, pos, ◌*ℤ◌, neg_ℤ, refl, ap, ◌∙◌, arith, List, [], ◌∷◌, ◌++◌, get_or, set, Bool, true, false, cond}
+use Rattle.std.proofs.Common.{◌≡◌, ℕ, zero, suc, ◌≤◌, ℤ, pos, ◌*ℤ◌, neg_ℤ, refl, ap, ◌∙◌, arith, List, [], ◌∷◌, ◌++◌, get_or, set, replicate, Bool, true, false, cond, Option}
 use Rattle.std.specs.List.{AllByRecursion}
 use Rattle.std.proofs.lemmas.Int.{ints}
 use Rattle.std.proofs.Math.IntN.{*ℤ-zero}
 use Rattle.pc_rows.specs.Linear.{Linear, coefficient, add_lists, scale_list, negate_list, zero_from, is_zero, IsOver}
-use Rattle.pc_rows.specs.Substitution.{carried}
+use Rattle.pc_rows.specs.declared.row.TheConstants.{VARIABLES}
+use Rattle.pc_rows.specs.Substitution.{carried, needs_open_end, never_row}
 use Rattle.pc_rows.specs.Joins.{with_row, is_covered}
 use Rattle.pc_rows.specs.Laws.{FirstIsOver, SubstitutedIsOver, DifferenceIsOver, NegationIsOver, JoinIsOver}
 use Rattle.pc_rows.proofs.Algebra.{get_or-add_lists, get_or-scale_list}
 use Rattle.pc_rows.proofs.Joining.{each_join}
 
-zero_from_at : (n : ℕ) (zs : List ℤ) (v : ℕ) → n ≤ v → get_or (zero_from n zs) v (pos 0) ≡ pos 0
+pub zero_from_at : (n : ℕ) (zs : List ℤ) (v : ℕ) → n ≤ v → get_or (zero_from n zs) v (pos 0) ≡ pos 0
 zero_from_at n [] v h = refl
 zero_from_at zero (z ∷ zs) zero h = refl
 zero_from_at zero (z ∷ zs) (suc v) h = zero_from_at zero zs v (omega arith)
@@ -47,18 +48,24 @@ difference_is_over n a b f g v h = added_at a.coefficients (negate_list b.coeffi
 pub negation_is_over : NegationIsOver
 negation_is_over n r f v h = opposite_at r.coefficients v (f v h)
 
-carried_is_over : (n : ℕ) (r form : Linear) (x : ℕ) (lo hi : ℤ) → IsOver n r → IsOver n form → IsOver n (carried r x form lo hi)
+carried_is_over : (n : ℕ) (r form : Linear) (x : ℕ) (lo hi : Option ℤ) → IsOver n r → IsOver n form → IsOver n (carried r x form lo hi)
 carried_is_over n r form x lo hi f g v h =
     added_at (scale_list (coefficient r x) form.coefficients) (set r.coefficients x (pos 0)) v
     (scaled_at (coefficient r x) form.coefficients v (g v h))
     (set_at r.coefficients x v (f v h))
 
-by_zero : (n : ℕ) (r form : Linear) (x : ℕ) (lo hi : ℤ) (t : Bool) → IsOver n r → IsOver n form → IsOver n (cond t r (carried r x form lo hi))
-by_zero n r form x lo hi true f g = f
-by_zero n r form x lo hi false f g = carried_is_over n r form x lo hi f g
+zeros_at : (m v : ℕ) → get_or (replicate m (pos 0)) v (pos 0) ≡ pos 0
+zeros_at zero v = refl
+zeros_at (suc m) zero = refl
+zeros_at (suc m) (suc v) = zeros_at m v
+
+by_case : (n : ℕ) (r form : Linear) (x : ℕ) (lo hi : Option ℤ) (none is_open : Bool) → IsOver n r → IsOver n form → IsOver n (cond none r (cond is_open never_row (carried r x form lo hi)))
+by_case n r form x lo hi true is_open f g = f
+by_case n r form x lo hi false true f g = λ v h. zeros_at VARIABLES v
+by_case n r form x lo hi false false f g = carried_is_over n r form x lo hi f g
 
 pub substituted_is_over : SubstitutedIsOver
-substituted_is_over n r form x lo hi f g = by_zero n r form x lo hi (is_zero (coefficient r x)) f g
+substituted_is_over n r form x lo hi f g = by_case n r form x lo hi (is_zero (coefficient r x)) (needs_open_end (coefficient r x) lo hi) f g
 
 with_row_is_over : (n : ℕ) (rows : List Linear) (r : Linear) (t : Bool) → AllByRecursion (IsOver n) rows → IsOver n r → AllByRecursion (IsOver n) (cond t rows (rows ++ r ∷ []))
 with_row_is_over n rows r true h g = h

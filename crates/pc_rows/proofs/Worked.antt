@@ -1,7 +1,7 @@
 -- The definitions at worked values: x is variable 0 and y variable 1.
-use Rattle.std.proofs.Common.{◌≡◌, ℤ, pos, negsuc, [], ◌∷◌, refl}
+use Rattle.std.proofs.Common.{◌≡◌, ℤ, pos, negsuc, [], ◌∷◌, refl, Some, None}
 use Rattle.pc_rows.specs.Linear.{Linear, value, negation, difference_of, above_of, first_of}
-use Rattle.pc_rows.specs.Substitution.{substituted}
+use Rattle.pc_rows.specs.Substitution.{substituted, never_row}
 use Rattle.pc_rows.specs.Joins.{joined}
 use Rattle.pc_rows.specs.Shows.{total}
 use Rattle.pc_rows.specs.Points.{numerator}
@@ -11,15 +11,22 @@ abbrev row : ℤ → ℤ → ℤ → Linear
 row c x y = record { constant = c; coefficients = x ∷ y ∷ [] }
 
 -- x >= 0 before x = x - y
-over_a_difference : substituted (row (pos 0) (pos 1) (pos 0)) 0 (difference_of (row (pos 0) (pos 1) (pos 0)) (row (pos 0) (pos 0) (pos 1))) (pos 0) (pos 0) ≡ row (pos 0) (pos 1) (negsuc 0)
+over_a_difference : substituted (row (pos 0) (pos 1) (pos 0)) 0 (difference_of (row (pos 0) (pos 1) (pos 0)) (row (pos 0) (pos 0) (pos 1))) (Some (pos 0)) (Some (pos 0)) ≡ row (pos 0) (pos 1) (negsuc 0)
 over_a_difference = refl
 
 -- 105 - y >= 0 before y = y + [0, 1]
-over_a_choice : substituted (row (pos 105) (pos 0) (negsuc 0)) 1 (row (pos 0) (pos 0) (pos 1)) (pos 0) (pos 1) ≡ row (pos 104) (pos 0) (negsuc 0)
+over_a_choice : substituted (row (pos 105) (pos 0) (negsuc 0)) 1 (row (pos 0) (pos 0) (pos 1)) (Some (pos 0)) (Some (pos 1)) ≡ row (pos 104) (pos 0) (negsuc 0)
 over_a_choice = refl
 
+-- x - y >= 0 before x = x + [0, *], and -x + 5 >= 0, which some successor breaks
+over_an_open_end : substituted (row (pos 0) (pos 1) (negsuc 0)) 0 (row (pos 0) (pos 1) (pos 0)) (Some (pos 0)) None ≡ row (pos 0) (pos 1) (negsuc 0)
+over_an_open_end = refl
+
+over_the_needed_open_end : substituted (row (pos 5) (negsuc 0) (pos 0)) 0 (row (pos 0) (pos 1) (pos 0)) (Some (pos 0)) None ≡ never_row
+over_the_needed_open_end = refl
+
 -- a row without the variable stays
-over_another : substituted (row (pos 7) (pos 0) (pos 2)) 0 (row (pos 1) (pos 3) (pos 0)) (pos 0) (pos 1) ≡ row (pos 7) (pos 0) (pos 2)
+over_another : substituted (row (pos 7) (pos 0) (pos 2)) 0 (row (pos 1) (pos 3) (pos 0)) (Some (pos 0)) (Some (pos 1)) ≡ row (pos 7) (pos 0) (pos 2)
 over_another = refl
 
 -- not 2x - y + 3 >= 0 is -2x + y - 4 >= 0

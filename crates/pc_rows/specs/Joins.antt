@@ -60,8 +60,8 @@ AddIs old r (Ok u) new = (length new ≤ ROWS) × (new ≡ with_row old r)
 AddIs old r (Err Full) new = ROWS < length (with_row old r)
 AddIs old r (Err NoMemory) new = Unit {0}
 
--- the join; Full comes exactly where it has a row too many
+-- the join; Full comes exactly where it has a row too many, whatever the memory
 abbrev pub JoinIs : List Linear → List Linear → Result (List Linear) RowsFault → Type 0
 JoinIs a b (Ok rows) = (length rows ≤ ROWS) × (rows ≡ joined a b)
 JoinIs a b (Err Full) = ROWS < length (joined a b)
-JoinIs a b (Err NoMemory) = Unit {0}
+JoinIs a b (Err NoMemory) = length (joined a b) ≤ ROWS

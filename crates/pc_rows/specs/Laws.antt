@@ -1,9 +1,9 @@
 -- What all that stands on rows cites of them.
-use Rattle.std.specs.Prelude.{◌≡◌, ◌↔◌, ℕ, ◌+◌, ◌*◌, ◌^◌, ◌<◌, true, ℤ, pos, ◌+ℤ◌, ◌-ℤ◌, ◌*ℤ◌, neg_ℤ, ◌≤ℤ◌, ◌<ℤ◌, List, ◌++◌, length, replicate, slice_index_or}
+use Rattle.std.specs.Prelude.{◌≡◌, ◌↔◌, ℕ, ◌+◌, ◌*◌, ◌^◌, ◌<◌, true, ℤ, pos, ◌+ℤ◌, ◌-ℤ◌, ◌*ℤ◌, neg_ℤ, ◌<ℤ◌, List, ◌++◌, length, replicate, slice_index_or, Option, MatchOption}
 use Rattle.std.specs.List.{AllByRecursion}
 use Rattle.pc_rows.specs.Linear.{Linear, State, value, Meets, MeetsAll, sum_of, difference_of, scaled_by, negation, above_of, zero_from, first_of, IsOver, is_number, IsNumber, coefficient, of_constant, with_coefficient, is_in_range, IsInRange}
 use Rattle.pc_rows.specs.Bounds.{IsWithin, Within, AllWithin}
-use Rattle.pc_rows.specs.Substitution.{substituted, SubstituteFits, AllSuccessorsMeet}
+use Rattle.pc_rows.specs.Substitution.{substituted, SubstituteFits, AllSuccessorsMeet, AreOrdered}
 use Rattle.pc_rows.specs.Joins.{joined, is_covered, IsCovered}
 use Rattle.pc_rows.specs.Evidence.{Proof, Point}
 use Rattle.pc_rows.specs.Shows.{Shows}
@@ -67,7 +67,7 @@ NegationIsExact = (r : Linear) (s : State) → Meets s (negation r) ↔ (Meets s
 
 -- the states that meet a row carried back are those all of whose successors meet the row
 abbrev pub SubstitutionIsExact : Type 0
-SubstitutionIsExact = (r form : Linear) (x : ℕ) (lo hi : ℤ) (s : State) → x < length s → lo ≤ℤ hi →
+SubstitutionIsExact = (r form : Linear) (x : ℕ) (lo hi : Option ℤ) (s : State) → x < length s → AreOrdered lo hi →
     Meets s (substituted r x form lo hi) ↔ AllSuccessorsMeet s x form lo hi r
 
 -- the test for covered rows says what is meant
@@ -96,7 +96,7 @@ FirstIsOver = (n : ℕ) (r : Linear) → IsOver n (first_of n r)
 
 -- a row carried back has no variable that neither it nor the form has
 abbrev pub SubstitutedIsOver : Type 0
-SubstitutedIsOver = (n : ℕ) (r form : Linear) (x : ℕ) (lo hi : ℤ) → IsOver n r → IsOver n form → IsOver n (substituted r x form lo hi)
+SubstitutedIsOver = (n : ℕ) (r form : Linear) (x : ℕ) (lo hi : Option ℤ) → IsOver n r → IsOver n form → IsOver n (substituted r x form lo hi)
 
 -- a difference has no variable that neither row has
 abbrev pub DifferenceIsOver : Type 0
@@ -109,10 +109,14 @@ NegationIsOver = (n : ℕ) (r : Linear) → IsOver n r → IsOver n (negation r)
 abbrev pub JoinIsOver : Type 0
 JoinIsOver = (n : ℕ) (a b : List Linear) → AllByRecursion (IsOver n) a → AllByRecursion (IsOver n) b → AllByRecursion (IsOver n) (joined a b)
 
--- a row is carried back without leaving the range where its numbers, those of the form and both ends are small
+-- an end that is open, or is within the bound
+abbrev pub EndIsWithin : ℕ → Option ℤ → Type 0
+EndIsWithin bound end = MatchOption end (Unit {0}) (IsWithin bound)
+
+-- a row is carried back without leaving the range where its numbers, those of the form and the closed ends are small
 abbrev pub SmallSubstitutionFits : Type 0
-SmallSubstitutionFits = (bound : ℕ) (r form : Linear) (x : ℕ) (lo hi : ℤ) → bound + bound * bound + bound * bound < 2 ^ 127 →
-    Within bound r → Within bound form → IsWithin bound lo → IsWithin bound hi → SubstituteFits r x form lo hi
+SmallSubstitutionFits = (bound : ℕ) (r form : Linear) (x : ℕ) (lo hi : Option ℤ) → bound + bound * bound + bound * bound < 2 ^ 127 →
+    Within bound r → Within bound form → EndIsWithin bound lo → EndIsWithin bound hi → SubstituteFits r x form lo hi
 
 -- the test for rows in range says what is meant
 abbrev pub RangeIsMeant : Type 0

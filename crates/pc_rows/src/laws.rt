@@ -2,6 +2,7 @@
 //! nothing.
 
 ghost use Rattle.pc_rows.specs.Laws.{ValueOfConstant, ValueOfCoefficient, ValueAtZero, ValueOfSum, ValueOfDifference, ValueOfMultiple, ValueOfNegation, NegationIsExact, ValueOfAbove, AboveIsExact, ValueOfFirst, ZeroFromEntry, ValueAtEntry, ValueOfNumber, NumberIsMeant, SubstitutionIsExact, CoveringIsMeant, CoveredIsMet, JoinIsBoth, JoinIsWithin, SmallSubstitutionFits, FirstIsOver, SubstitutedIsOver, DifferenceIsOver, NegationIsOver, JoinIsOver, RangeIsMeant, ShownIsMet, RefutedIsNotShown};
+ghost use Rattle.pc_rows.specs.Readers.{TermsAreCoefficients, SameTermsSameRow, WalksAgree};
 
 /// The values of rows at a state.
 pub fn row_values()
@@ -61,6 +62,13 @@ pub fn variables_are_kept()
     ensures difference { DifferenceIsOver }
     ensures negation { NegationIsOver }
     ensures join { JoinIsOver }
+{}
+
+/// The terms of a row say what its coefficients say.
+pub fn terms_are_exact()
+    ensures coefficients { TermsAreCoefficients }
+    ensures same { SameTermsSameRow }
+    ensures walk { WalksAgree }
 {}
 
 /// A goal that a proof shows is met where the premises are.

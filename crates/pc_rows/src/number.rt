@@ -1,6 +1,6 @@
 //! Numbers of at most 127 bits beside their sign, so that each has its opposite.
 
-ghost use Rattle.std.specs.Prelude.{◌≡◌, ℤ, pos, ◌+ℤ◌, ◌-ℤ◌, ◌*ℤ◌, neg_ℤ, OkIff, int_le};
+ghost use Rattle.std.specs.Prelude.{◌≡◌, ℤ, pos, ◌+ℤ◌, ◌-ℤ◌, ◌*ℤ◌, neg_ℤ, OkIff, int_le, int_lt, SomeIff};
 ghost use Rattle.pc_rows.specs.Linear.{InRange, is_zero};
 ghost use Rattle.pc_rows.specs.Substitution.{lesser};
 
@@ -29,13 +29,32 @@ impl Model for Number {
     ghost inverse = { λ z. record { n = z } };
 }
 
+impl Default for Number {
+    ghost is_default = { λ z. z ≡ pos 0 };
+
+    /// The number 0.
+    fn default() -> Number {
+        Number { n: 0 }
+    }
+}
+
 impl Number {
-    /// The number `n`.
+    /// The number `n`, which is any but `i128::MIN`.
     pub fn new(n: i128) -> Number
         requires { InRange n }
         ensures { result ≡ n }
     {
         Number { n }
+    }
+
+    /// The number `n`. None exactly where it is not in range, at `i128::MIN`.
+    pub fn checked(n: i128) -> Option<Number>
+        ensures { SomeIff result (InRange n) n }
+    {
+        match n {
+            i128::MIN => None,
+            _ => Some(Number { n }),
+        }
     }
 
     /// The number as a machine integer.
@@ -122,6 +141,13 @@ impl Number {
         ensures { result ≡ int_le (pos 0) self }
     {
         0 <= self.n
+    }
+
+    /// Whether it is less than `other`.
+    pub fn is_below(self, other: Number) -> bool
+        ensures { result ≡ int_lt self other }
+    {
+        self.n < other.n
     }
 
     /// Whether it is `other` or less.

@@ -1,9 +1,9 @@
 //! Lists of rows.
 
-ghost use Rattle.std.specs.Prelude.{◌≡◌, ◌<◌, ◌≤◌, [], length, slice_get, IfOk, Some};
+ghost use Rattle.std.specs.Prelude.{◌≡◌, ◌<◌, ◌≤◌, [], length, slice_get, IfOk, IsTrue, ◌↔◌, Some, ◌||◌, if◌then◌else◌};
 ghost use Rattle.std.specs.List.{AllByRecursion, list_any};
 ghost use Rattle.pc_rows.specs.Linear.{IsRow};
-ghost use Rattle.pc_rows.specs.Joins.{is_at_most, is_covered, PushIs, AddIs, JoinIs};
+ghost use Rattle.pc_rows.specs.Joins.{is_at_most, is_covered, joined, PushIs, AddIs, JoinIs};
 
 use crate::row::Row;
 use std::alloc::Global;
@@ -80,6 +80,7 @@ impl Rows {
         if self.rows.len() == ROWS {
             return Err(RowsFault::Full);
         }
+        let _row = r.constant();
         match self.rows.push(r) {
             Ok(()) => Ok(()),
             Err(_) => Err(RowsFault::NoMemory),
@@ -117,8 +118,29 @@ fn some_is_at_most(rows: &[Row], r: &Row) -> bool
 }
 
 /// The rows of `a`, and then each row of `b` that is not covered by what stands before it. `Full`
-/// exactly where these are more than `ROWS` rows.
+/// exactly where these are more than `ROWS` rows, whatever the memory.
 pub fn join(a: &Rows, b: &Rows) -> Result<Rows, RowsFault>
+    ensures { JoinIs a.now b.now result }
+{
+    if !has_room(a, b) {
+        return Err(RowsFault::Full);
+    }
+    join_all(a, b)
+}
+
+/// Whether the join has at most `ROWS` rows. It needs no memory.
+fn has_room(a: &Rows, b: &Rows) -> bool
+    ensures { IsTrue result ↔ (length (joined a.now b.now) ≤ ROWS) }
+{
+    if a.len() + b.len() <= ROWS {
+        return true;
+    }
+    joined_len(a, b) <= ROWS
+}
+
+/// The join, which has at most `ROWS` rows.
+fn join_all(a: &Rows, b: &Rows) -> Result<Rows, RowsFault>
+    requires { length (joined a.now b.now) ≤ ROWS }
     ensures { JoinIs a.now b.now result }
 {
     let mut all = match a.copy() {
@@ -129,6 +151,28 @@ pub fn join(a: &Rows, b: &Rows) -> Result<Rows, RowsFault>
         add(&mut all, b.at(i))?;
     }
     Ok(all)
+}
+
+/// How many rows the join has. It needs no memory.
+fn joined_len(a: &Rows, b: &Rows) -> usize
+    ensures { result ≡ length (joined a.now b.now) }
+{
+    let mut count = a.len();
+    for i in 0..b.len() {
+        count += rows_added(a, &b.rows[..i], b.at(i));
+    }
+    count
+}
+
+/// How many rows a join gains by `r`, where `a` and `before` come before it: none where one of them covers it.
+fn rows_added(a: &Rows, before: &[Row], r: &Row) -> usize
+    ensures { result ≡ (if is_covered r.now a.now || list_any (λ x. is_at_most x r.now) before.now then 0 else 1) }
+{
+    if covered(r, a) || some_is_at_most(before, r) {
+        0
+    } else {
+        1
+    }
 }
 
 fn add(all: &mut Rows, r: &Row) -> Result<(), RowsFault>

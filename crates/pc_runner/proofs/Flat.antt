@@ -3,9 +3,9 @@ use Rattle.std.proofs.Common.{◌≡◌, ℤ, List, [], ◌∷◌, ◌++◌, app
 use Rattle.std.proofs.lemmas.List.{take_rest}
 use Rattle.std.specs.Borrow.{Bor}
 use Rattle.pc_text.specs.declared.place.Place.{Place}
-use Rattle.pc_syntax.specs.declared.tree.Stmt.{Stmt, out-Stmt}
-use Rattle.pc_syntax.specs.Values.{State}
-use Rattle.pc_syntax.specs.Machine.{Outcome}
+use Rattle.pc_program.specs.declared.tree.Stmt.{Stmt, out-Stmt}
+use Rattle.pc_rows.specs.Linear.{State}
+use Rattle.pc_program.specs.Machine.{Outcome}
 use Rattle.pc_runner.specs.Checked.{stepped, stepped_at}
 use Rattle.pc_runner.specs.Stack.{flat}
 

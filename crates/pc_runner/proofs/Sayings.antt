@@ -1,9 +1,9 @@
 -- The verdict on a run says what is so of the run, and no other verdict does.
 use Rattle.std.proofs.Common.{◌≡◌, ◌∙◌, refl, ap, sym, subst, ℕ, zero, suc, ◌+◌, ◌≤◌, ℤ, pos, List, [], ◌∷◌, Option, Some, None, Ok, length, get_or, take, arith}
 use Rattle.pc_text.specs.declared.place.Place.{Place}
-use Rattle.pc_syntax.specs.declared.tree.Stmt.{Stmt}
-use Rattle.pc_syntax.specs.Values.{State}
-use Rattle.pc_syntax.specs.Machine.{Outcome, Going, Violated, Blocked, Ended, run, step}
+use Rattle.pc_program.specs.declared.tree.Stmt.{Stmt}
+use Rattle.pc_rows.specs.Linear.{State}
+use Rattle.pc_program.specs.Machine.{Outcome, Going, Violated, Blocked, Ended, run, step}
 use Rattle.pc_runner.specs.declared.verdict.Verdict.{Verdict}
 use Rattle.pc_runner.specs.declared.verdict.Verdict.TheVariants as verdict
 use Rattle.pc_runner.specs.Computed.{computed, first_past}

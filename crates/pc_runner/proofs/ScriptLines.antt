@@ -6,35 +6,16 @@ use Rattle.std.proofs.lemmas.Bool.{lt-ltb, le-ltb, not-true, and_parts}
 use Rattle.std.proofs.lemmas.List.Splits.{slice_split_at, slice_split_none, length-slice_split}
 use Rattle.pc_text.specs.Bytes.{Bytes}
 use Rattle.pc_text.specs.Places.{is_line_feed}
-use Rattle.pc_text.specs.Lexemes.{in_line, EachPasses}
-use Rattle.pc_text.specs.Lines.{IsLine}
+use Rattle.pc_text.specs.Lines.{lines, IsLine}
+use Rattle.pc_text.specs.Words.{is_empty}
+use Rattle.pc_text.proofs.LineLists.{line_first, line_last, some_last}
 use Rattle.pc_runner.specs.declared.fault.ScriptFault.{ScriptFault}
 use Rattle.pc_runner.specs.declared.fault.ScriptFault.TheVariants as fault
 use Rattle.pc_runner.specs.declared.script.Script.{Script}
 use Rattle.pc_runner.specs.declared.script.TheConstants.{CHOICES}
-use Rattle.pc_runner.specs.Range.{is_in_range}
-use Rattle.pc_runner.specs.Words.{is_empty}
+use Rattle.pc_text.specs.Numerals.{is_in_range}
 use Rattle.pc_runner.specs.Answers.{Unless, Gives, Reads}
-use Rattle.pc_runner.specs.Scripts.{on_ok, lines, choice_of, with_choice, choices_of, script_by, script_of, entry_of, Choosing}
-
-feed_by : (b : ℕ) (line : Bytes) → is_line_feed b ≡ false → All (λ b. is_line_feed b ≡ false) line → All (λ b. is_line_feed b ≡ false) (b ∷ line)
-feed_by b line h more zero d l = h
-feed_by b line h more (suc k) d l = more k d (omega arith)
-
--- no byte of a line is a line feed
-no_feed : (line : Bytes) → EachPasses in_line line → All (λ b. is_line_feed b ≡ false) line
-no_feed [] h = λ k d l. absurd (omega arith)
-no_feed (b ∷ line) h = feed_by b line (not-true (is_line_feed b) (h.0)) (no_feed line (h.1))
-
-pub line_first : (b line rest : Bytes) → IsLine b line true rest → lines b ≡ line ∷ lines rest
-line_first b line rest h = ap lines h.0 ∙ slice_split_at is_line_feed line 10 rest (no_feed line h.1) refl
-
-pub line_last : (b line rest : Bytes) → IsLine b line false rest → lines b ≡ line ∷ []
-line_last b line rest h = ap lines h.0 ∙ slice_split_none is_line_feed line (no_feed line h.2)
-
-not_empty : (b : Bytes) → 0 < length b → is_empty b ≡ false
-not_empty [] h = absurd (omega arith)
-not_empty (x ∷ b) h = refl
+use Rattle.pc_runner.specs.Scripts.{on_ok, choice_of, with_choice, choices_of, script_by, script_of, entry_of, Choosing}
 
 more_by : (n : ℕ) (found : List ℤ) (line : Bytes) (ls : List Bytes) (k : ℕ) → length ls ≡ k + 1
     → choices_of n found (line ∷ ls) ≡ on_ok (choice_of n line) (λ x. on_ok (with_choice n found x) (λ all. choices_of (n + 1) all ls))
@@ -49,7 +30,7 @@ choices_first n found b line rest h = ap (choices_of n found) (line_first b line
 -- what follows the last line feed
 pub choices_last : (n : ℕ) (found : List ℤ) (b line rest : Bytes) → 0 < length b → IsLine b line false rest → choices_of n found (lines b) ≡ Err (fault.Form n)
 choices_last n found b line rest l h =
-    let some : is_empty line ≡ false = not_empty line (subst (λ z. 0 < length z) h.0 l) in
+    let some : is_empty line ≡ false = some_last b line rest l h in
     ap (choices_of n found) (line_last b line rest h) ∙ (rw some refl)
 
 -- a line at fault

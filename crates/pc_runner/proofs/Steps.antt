@@ -3,21 +3,22 @@ use Rattle.std.proofs.Common.{◌≡◌, ◌∙◌, refl, ap, sym, ℤ, ◌+ℤ�
 use Rattle.std.specs.Prelude.{if◌then◌else◌, ◌&&◌, slice_set}
 use Rattle.std.proofs.Math.IntN.{+ℤ_idr}
 use Rattle.pc_text.specs.declared.place.Place.{Place}
-use Rattle.pc_grammar.specs.declared.tree.Choice.{Choice}
-use Rattle.pc_syntax.specs.declared.tree.Expr.{Expr, fold-roll-Expr}
-use Rattle.pc_syntax.specs.declared.tree.Compare.{Compare}
-use Rattle.pc_syntax.specs.declared.tree.Right.{Right}
-use Rattle.pc_syntax.specs.declared.tree.Test.{Test}
-use Rattle.pc_syntax.specs.declared.tree.Test.TheVariants as test
-use Rattle.pc_syntax.specs.declared.tree.Stmt.{Stmt, Stmt-F, out-Stmt}
-use Rattle.pc_syntax.specs.declared.tree.Stmt.TheOpen as stmt
-use Rattle.pc_syntax.specs.Values.{State, value_of, compared, holds, all_hold, chosen}
-use Rattle.pc_syntax.specs.Machine.{Going, Violated, Blocked, step_at, drawn}
-use Rattle.pc_runner.specs.Range.{is_in_range}
+use Rattle.pc_language.specs.declared.choice.Choice.{Choice}
+use Rattle.pc_program.specs.declared.tree.Expr.{Expr, fold-roll-Expr}
+use Rattle.pc_program.specs.declared.tree.Compare.{Compare}
+use Rattle.pc_program.specs.declared.tree.Right.{Right}
+use Rattle.pc_program.specs.declared.tree.Test.{Test}
+use Rattle.pc_program.specs.declared.tree.Test.TheVariants as test
+use Rattle.pc_program.specs.declared.tree.Stmt.{Stmt, Stmt-F, out-Stmt}
+use Rattle.pc_program.specs.declared.tree.Stmt.TheOpen as stmt
+use Rattle.pc_program.specs.Values.{value_of, compared, holds, all_hold, chosen}
+use Rattle.pc_rows.specs.Linear.{State}
+use Rattle.pc_program.specs.Machine.{Going, Violated, Blocked, step_at, drawn}
+use Rattle.pc_text.specs.Numerals.{is_in_range}
 use Rattle.pc_runner.specs.Computed.{Computed, worked, in_expr, in_all, in_test, in_choice, in_right, in_stmt, first_past}
 use Rattle.pc_runner.specs.Checked.{then_with, fits, evaluated, held, all_held, tested, with_choice, assigned, stepped_at, stepped}
 use Rattle.pc_runner.specs.Verdicts.{unless, taken}
-use Rattle.pc_syntax.proofs.Exprs.{by_cases}
+use Rattle.pc_program.proofs.Exprs.{by_cases}
 
 -- ---- the first value past the range of two lists
 

@@ -1,8 +1,8 @@
 -- One turn of the run: what its first step makes of the verdict.
 use Rattle.std.proofs.Common.{◌≡◌, ◌∙◌, refl, ap, sym, ℕ, ◌+◌, ◌<◌, ℤ, List, ◌∷◌, length, get_or, drop, arith}
 use Rattle.std.proofs.lemmas.List.{drop_more}
-use Rattle.pc_syntax.specs.declared.tree.Stmt.{Stmt}
-use Rattle.pc_syntax.specs.Values.{State}
+use Rattle.pc_program.specs.declared.tree.Stmt.{Stmt}
+use Rattle.pc_rows.specs.Linear.{State}
 use Rattle.pc_runner.specs.declared.machine.Step.{Step}
 use Rattle.pc_runner.specs.declared.machine.Step.TheVariants as step
 use Rattle.pc_runner.specs.declared.verdict.Verdict.{Verdict}

@@ -2,18 +2,20 @@
 use Rattle.std.specs.Prelude.{ℤ, pos, ◌+ℤ◌, ◌-ℤ◌, ◌*ℤ◌, neg_ℤ, List, [], ◌∷◌, ◌++◌, slice_index_or, slice_set, Option, Some, None, Result, Ok, Err, Bool, true, false, not, if◌then◌else◌}
 use Rattle.std.specs.Ordering.{int_eq}
 use Rattle.pc_text.specs.declared.place.Place.{Place}
-use Rattle.pc_grammar.specs.declared.tree.Choice.{Choice}
-use Rattle.pc_syntax.specs.declared.tree.Expr.{Expr, Expr-F, fold-Expr}
-use Rattle.pc_syntax.specs.declared.tree.Expr.TheOpen as expr
-use Rattle.pc_syntax.specs.declared.tree.Compare.{Compare}
-use Rattle.pc_syntax.specs.declared.tree.Right.{Right}
-use Rattle.pc_syntax.specs.declared.tree.Test.{Test}
-use Rattle.pc_syntax.specs.declared.tree.Test.TheVariants as test
-use Rattle.pc_syntax.specs.declared.tree.Stmt.{Stmt, Stmt-F, out-Stmt}
-use Rattle.pc_syntax.specs.declared.tree.Stmt.TheOpen as stmt
-use Rattle.pc_syntax.specs.Values.{State, compared}
-use Rattle.pc_syntax.specs.Machine.{Outcome, Going, Violated, Blocked, Ended, clamped, end_of}
-use Rattle.pc_runner.specs.Range.{is_in_range}
+use Rattle.pc_language.specs.declared.choice.Choice.{Choice}
+use Rattle.pc_program.specs.declared.tree.Expr.{Expr, Expr-F, fold-Expr}
+use Rattle.pc_program.specs.declared.tree.Expr.TheOpen as expr
+use Rattle.pc_program.specs.declared.tree.Compare.{Compare}
+use Rattle.pc_program.specs.declared.tree.Right.{Right}
+use Rattle.pc_program.specs.declared.tree.Test.{Test}
+use Rattle.pc_program.specs.declared.tree.Test.TheVariants as test
+use Rattle.pc_program.specs.declared.tree.Stmt.{Stmt, Stmt-F, out-Stmt}
+use Rattle.pc_program.specs.declared.tree.Stmt.TheOpen as stmt
+use Rattle.pc_program.specs.Values.{compared}
+use Rattle.pc_rows.specs.Linear.{State}
+use Rattle.pc_program.specs.Machine.{Outcome, Going, Violated, Blocked, Ended, clamped}
+use Rattle.pc_language.specs.Ends.{end_of}
+use Rattle.pc_text.specs.Numerals.{is_in_range}
 
 -- an answer handed on, or the place of a value that is past the range
 abbrev pub then_with : {A B : Type 0} → Result A Place → (A → Result B Place) → Result B Place

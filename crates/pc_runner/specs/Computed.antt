@@ -2,18 +2,19 @@
 -- variables are not computed: they are in range, as those of the script and of the steps before are.
 use Rattle.std.specs.Prelude.{ℤ, pos, ◌+ℤ◌, ◌-ℤ◌, ◌*ℤ◌, neg_ℤ, List, [], ◌∷◌, ◌++◌, slice_index_or, Option, Some, None, if◌then◌else◌}
 use Rattle.pc_text.specs.declared.place.Place.{Place}
-use Rattle.pc_grammar.specs.declared.tree.Choice.{Choice}
-use Rattle.pc_syntax.specs.declared.tree.Expr.{Expr, Expr-F, fold-Expr}
-use Rattle.pc_syntax.specs.declared.tree.Expr.TheOpen as expr
-use Rattle.pc_syntax.specs.declared.tree.Compare.{Compare}
-use Rattle.pc_syntax.specs.declared.tree.Right.{Right}
-use Rattle.pc_syntax.specs.declared.tree.Test.{Test}
-use Rattle.pc_syntax.specs.declared.tree.Test.TheVariants as test
-use Rattle.pc_syntax.specs.declared.tree.Stmt.{Stmt, Stmt-F, out-Stmt}
-use Rattle.pc_syntax.specs.declared.tree.Stmt.TheOpen as stmt
-use Rattle.pc_syntax.specs.Values.{State, value_of, holds}
-use Rattle.pc_syntax.specs.Machine.{drawn}
-use Rattle.pc_runner.specs.Range.{is_in_range}
+use Rattle.pc_language.specs.declared.choice.Choice.{Choice}
+use Rattle.pc_program.specs.declared.tree.Expr.{Expr, Expr-F, fold-Expr}
+use Rattle.pc_program.specs.declared.tree.Expr.TheOpen as expr
+use Rattle.pc_program.specs.declared.tree.Compare.{Compare}
+use Rattle.pc_program.specs.declared.tree.Right.{Right}
+use Rattle.pc_program.specs.declared.tree.Test.{Test}
+use Rattle.pc_program.specs.declared.tree.Test.TheVariants as test
+use Rattle.pc_program.specs.declared.tree.Stmt.{Stmt, Stmt-F, out-Stmt}
+use Rattle.pc_program.specs.declared.tree.Stmt.TheOpen as stmt
+use Rattle.pc_program.specs.Values.{value_of, holds}
+use Rattle.pc_rows.specs.Linear.{State}
+use Rattle.pc_program.specs.Machine.{drawn}
+use Rattle.pc_text.specs.Numerals.{is_in_range}
 
 -- a value, and the place of the operator or of the choice that makes it
 pub record Computed : Type 0 where

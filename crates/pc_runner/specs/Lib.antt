@@ -1,9 +1,7 @@
-pub mod Range
 pub mod Computed
 pub mod Checked
 pub mod Stack
 pub mod Verdicts
 pub mod Runs
-pub mod Words
 pub mod Scripts
 pub mod Answers

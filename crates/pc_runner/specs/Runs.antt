@@ -1,10 +1,10 @@
 -- What each verdict says of the machine's run over a list of choices.
 use Rattle.std.specs.Prelude.{◌≡◌, ◌<◌, ◌≤◌, ℕ, ◌+◌, ℤ, pos, List, [], length, take, slice_index_or, Some, None}
 use Rattle.pc_text.specs.declared.place.Place.{Place}
-use Rattle.pc_syntax.specs.declared.tree.Stmt.{Stmt}
-use Rattle.pc_syntax.specs.declared.program.Program.{Program}
-use Rattle.pc_syntax.specs.Values.{State}
-use Rattle.pc_syntax.specs.Machine.{Outcome, Going, Violated, Blocked, Ended, run, started}
+use Rattle.pc_program.specs.declared.tree.Stmt.{Stmt}
+use Rattle.pc_program.specs.declared.program.Program.{Program}
+use Rattle.pc_rows.specs.Linear.{State}
+use Rattle.pc_program.specs.Machine.{Outcome, Going, Violated, Blocked, Ended, run, started}
 use Rattle.pc_runner.specs.declared.verdict.Verdict.{Verdict}
 use Rattle.pc_runner.specs.declared.verdict.Verdict.TheVariants as verdict
 use Rattle.pc_runner.specs.Computed.{Computed, computed, first_past}

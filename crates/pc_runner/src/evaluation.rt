@@ -4,7 +4,7 @@ ghost use Rattle.std.specs.Prelude.{◌≡◌, pos, slice_index_or};
 ghost use Rattle.pc_runner.specs.Checked.{evaluated};
 
 use crate::arithmetic::{difference, opposite, product, sum};
-use pc_syntax::Expr;
+use pc_program::Expr;
 use pc_text::Place;
 
 /// What an expression is worth at a state, or the place of its first operator whose value is not in

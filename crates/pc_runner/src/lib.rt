@@ -2,15 +2,14 @@
 #![tactic(auto)]
 
 mod arithmetic;
+mod conditions;
 mod evaluation;
 mod fault;
 mod machine;
 mod reading;
 mod runs;
 mod script;
-mod testing;
 mod verdict;
-mod words;
 
 pub use fault::ScriptFault;
 pub use reading::read_script;

@@ -1,15 +1,17 @@
 //! The machine that runs a program.
 
 ghost use Rattle.std.specs.Prelude.{◌≡◌, ◌∷◌, ◌++◌, IfOk, slice_set};
-ghost use Rattle.pc_syntax.specs.Machine.{clamped, end_of};
-ghost use Rattle.pc_syntax.specs.declared.tree.Stmt.{out-Stmt};
+ghost use Rattle.pc_program.specs.Machine.{clamped};
+ghost use Rattle.pc_language.specs.Ends.{end_of};
+ghost use Rattle.pc_program.specs.declared.tree.Stmt.{out-Stmt};
 ghost use Rattle.pc_runner.specs.Checked.{then_with, assigned, stepped_at, stepped};
 ghost use Rattle.pc_runner.specs.Stack.{flat, led_to, state_or_past};
 
 use crate::arithmetic::sum;
+use crate::conditions::{all_hold, tested};
 use crate::evaluation::value_of;
-use crate::testing::{all_hold, tested};
-use pc_syntax::{Bound, Choice, Right, Stmt};
+use pc_language::{Bound, Choice};
+use pc_program::{Right, Stmt};
 use pc_text::Place;
 use sqlite_items::Items;
 use std::alloc::AllocError;

@@ -1,51 +1,58 @@
 //! Scripts, read from their texts.
 
-ghost use Rattle.std.specs.Prelude.{◌≡◌, ◌≤◌, ◌<◌, ◌+◌, ◌-◌, ◌^◌, ◌++◌, [], length, replicate, true, OnOk, IfOk, option_map, Result};
+ghost use Rattle.std.specs.Prelude.{◌≡◌, ◌≤◌, ◌<◌, ◌-◌, ◌^◌, ◌++◌, [], length, replicate, codes, true, false, OnOk, IfOk, MatchOption, option_map};
 ghost use Rattle.std.specs.List.{list_all};
-ghost use Rattle.pc_text.specs.Numerals.{integer_of};
+ghost use Rattle.pc_text.specs.Lines as text;
+ghost use Rattle.pc_text.specs.Numerals.{integer_of, is_in_range};
+ghost use Rattle.pc_text.specs.Words.{behind, is_numeral, words};
 ghost use Rattle.pc_runner.specs.Answers.{Gives, Reads};
-ghost use Rattle.pc_runner.specs.Range.{is_in_range};
 ghost use Rattle.pc_runner.specs.Scripts as spec;
 ghost use Rattle.pc_runner.specs.Scripts.{script_of};
-ghost use Rattle.pc_runner.specs.Words.{bytes_left, is_numeral, words, words_left};
 
 use crate::fault::ScriptFault;
 use crate::script::{CHOICES, Script};
-use crate::words::{first_word, is_numeral, number_of};
-use pc_text::Lines;
+use pc_text::{Lines, Word, Words, is_numeral};
 use sqlite_items::Items;
 use std::alloc::{AllocError, Global};
 
-fn are_numerals(rest: Option<&[u8]>) -> bool
-    ensures { result ≡ list_all is_numeral (words_left rest.entry) }
+/// Whether all words that are left are numerals.
+fn are_numerals(words: &mut Words) -> bool
+    ensures { result ≡ list_all is_numeral words.old }
 {
-    let mut rest = rest;
-    'words: while let Some(text) = rest {
-        let (word, more) = first_word(text);
+    'words: while let Some(word) = words.next() {
         if !is_numeral(word) {
             return false;
         }
-        rest = more;
     }
     true
 }
 
-/// The numbers of numerals in the first line, in order.
-fn values(alloc: Global, rest: Option<&[u8]>) -> Result<Items<i128>, ScriptFault>
-    requires { list_all is_numeral (words_left rest) ≡ true }
-    ensures gives { Gives result (spec.values_in 1 (words_left rest.entry)) }
-    ensures few { IfOk result (λ values. length values ≤ bytes_left rest.entry) }
+/// The number of a numeral, nothing where it is not in range.
+fn number_of(numeral: &[u8]) -> Option<i128>
+    requires { is_numeral numeral.now ≡ true }
+    ensures { MatchOption result (is_in_range (integer_of numeral.now) ≡ false)
+        (λ n. (n ≡ integer_of numeral.now) × (is_in_range n ≡ true)) }
+{
+    match Word::of(numeral) {
+        Word::Number(number) => Some(number),
+        Word::Past => None,
+        Word::Other => None,
+    }
+}
+
+/// The numbers of the numerals that are left in the first line, in order.
+fn values(alloc: Global, words: &mut Words) -> Result<Items<i128>, ScriptFault>
+    requires { list_all is_numeral words.old ≡ true }
+    ensures gives { Gives result (spec.values_in 1 words.old) }
+    ensures few { IfOk result (λ values. length values ≤ length words.old) }
     ensures in_range { IfOk result (λ values. list_all is_in_range values ≡ true) }
 {
     let mut values = Items::new(alloc);
-    let mut rest = rest;
-    'words: while let Some(text) = rest {
-        let (word, more) = first_word(text);
+    'words: while let Some(word) = words.next() {
         let Some(number) = number_of(word) else {
             return Err(ScriptFault::Number(1));
         };
         values.push(number)?;
-        rest = more;
     }
     Ok(values)
 }
@@ -56,11 +63,14 @@ fn read_entry(alloc: Global, line: &[u8], params: u32) -> Result<Items<i128>, Sc
     ensures gives { Gives result (spec.entry_of params line.now) }
     ensures in_range { IfOk result (λ values. list_all is_in_range values ≡ true) }
 {
-    let (keyword, rest) = first_word(line);
-    if !(keyword == b"entry".as_slice() && are_numerals(rest)) {
+    let Some(mut words) = Words::behind(line, b"entry") else {
+        return Err(ScriptFault::Form(1));
+    };
+    let mut tested = words.copy();
+    if !are_numerals(&mut tested) {
         return Err(ScriptFault::Form(1));
     }
-    let values = values(alloc, rest)?;
+    let values = values(alloc, &mut words)?;
     let given = values.len() as u32;
     if given == params {
         Ok(values)
@@ -74,20 +84,17 @@ fn read_entry(alloc: Global, line: &[u8], params: u32) -> Result<Items<i128>, Sc
 
 /// The words of a choice and of how often it is made, nothing where the line has others.
 fn choice_words(line: &[u8]) -> Option<(&[u8], &[u8])>
-    ensures { option_map (λ x. (x.0.now, x.1.now)) result ≡ spec.choice_words (words line.now) }
+    ensures { option_map (λ x. (x.0.now, x.1.now)) result ≡ spec.choice_behind (behind (codes "choose") (words line.now)) }
 {
-    let (keyword, rest) = first_word(line);
-    if !(keyword == b"choose".as_slice()) {
-        return None;
-    }
-    let (value, rest) = first_word(rest?);
-    let Some(rest) = rest else {
+    let mut words = Words::behind(line, b"choose")?;
+    let value = words.next()?;
+    let Some(times) = words.next() else {
         return Some((value, b"1".as_slice()));
     };
-    let (times, rest) = first_word(rest);
-    match rest {
-        Some(_) => None,
-        None => Some((value, times)),
+    if words.is_empty() {
+        Some((value, times))
+    } else {
+        None
     }
 }
 
@@ -130,7 +137,7 @@ fn add(choices: &mut Items<i128>, choice: i128, times: usize) -> Result<(), Allo
 
 /// The choices of the lines that are left.
 fn read_choices(alloc: Global, lines: &mut Lines) -> Result<Items<i128>, ScriptFault>
-    ensures gives { Gives result (spec.choices_of lines.old.number [] (spec.lines lines.old.rest)) }
+    ensures gives { Gives result (spec.choices_of lines.old.number [] (text.lines lines.old.rest)) }
     ensures in_range { IfOk result (λ choices. list_all is_in_range choices ≡ true) }
     ensures few { IfOk result (λ choices. length choices ≤ CHOICES) }
 {

@@ -1,7 +1,7 @@
 //! Runs of programs.
 
 ghost use Rattle.std.specs.Prelude.{◌≡◌, ◌+◌, ◌-◌, length, IfOk};
-ghost use Rattle.pc_syntax.specs.Machine.{started};
+ghost use Rattle.pc_program.specs.Machine.{started};
 ghost use Rattle.pc_runner.specs.Verdicts.{verdict_of};
 ghost use Rattle.pc_runner.specs.Runs.{SaysOf};
 ghost use Rattle.pc_runner.specs.declared.verdict.Verdict.{Verdict};
@@ -9,7 +9,7 @@ ghost use Rattle.pc_runner.specs.declared.verdict.Verdict.{Verdict};
 use crate::machine::{Step, take_step};
 use crate::script::Script;
 use crate::verdict::Verdict;
-use pc_syntax::Program;
+use pc_program::Program;
 use pc_text::NoMemory;
 use sqlite_items::Items;
 use std::alloc::{AllocError, Global};

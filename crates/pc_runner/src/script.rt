@@ -1,6 +1,6 @@
 ghost use Rattle.std.specs.Prelude.{◌≡◌, ◌≤◌, length, true};
 ghost use Rattle.std.specs.List.{list_all};
-ghost use Rattle.pc_runner.specs.Range.{is_in_range};
+ghost use Rattle.pc_text.specs.Numerals.{is_in_range};
 ghost use Rattle.pc_runner.specs.declared.script.TheConstants.{CHOICES};
 
 use sqlite_items::Items;

@@ -5,11 +5,11 @@ use Rattle.std.specs.List.{list_all}
 use Rattle.pc_text.specs.declared.place.Place.{Place}
 use Rattle.pc_rows.specs.Linear.{in_range}
 use Rattle.pc_grammar.specs.declared.symbol.Symbol.{Symbol}
-use Rattle.pc_grammar.specs.declared.symbol.Terminal.{Terminal}
-use Rattle.pc_grammar.specs.declared.symbol.Terminal.TheVariants as terminal
-use Rattle.pc_grammar.specs.declared.limits.TheConstants.{COMPARISONS}
-use Rattle.pc_grammar.specs.declared.tree.Bound.{Bound}
-use Rattle.pc_grammar.specs.declared.tree.Choice.{Choice}
+use Rattle.pc_language.specs.declared.terminal.Terminal.{Terminal}
+use Rattle.pc_language.specs.declared.terminal.Terminal.TheVariants as terminal
+use Rattle.pc_language.specs.declared.limits.TheConstants.{COMPARISONS}
+use Rattle.pc_language.specs.declared.choice.Bound.{Bound}
+use Rattle.pc_language.specs.declared.choice.Choice.{Choice}
 use Rattle.pc_grammar.specs.declared.tree.ExprTree.{ExprTree, fold-roll-ExprTree}
 use Rattle.pc_grammar.specs.declared.tree.ExprTree.TheOpen as expr_open
 use Rattle.pc_grammar.specs.declared.tree.ExprTree.TheVariants as expr_is
@@ -21,7 +21,7 @@ use Rattle.pc_grammar.specs.Rights as rights
 use Rattle.pc_grammar.specs.Statements as stmts
 use Rattle.pc_grammar.specs.Limits.{of_expressions}
 use Rattle.pc_syntax.specs.Trees.{fit_symbol, fit_expr_step, fit_expr, fit_compare, fit_all, fit_test, fit_bound, fit_choice, fit_right}
-use Rattle.pc_syntax.proofs.Results.{and_is, and_of, at_most}
+use Rattle.pc_program.proofs.Results.{and_is, and_of, at_most}
 use Rattle.pc_syntax.proofs.SymbolFits.{fits}
 use Rattle.pc_syntax.proofs.Phrases.{Over, Good, Passes, one_passes, map_passes, pair, both_passes, either_passes, optional, maybe_passes, many_passes, dead_passes}
 use Rattle.pc_syntax.proofs.PhraseSymbols.{all_over, ands, ands_on, ands-append, parted_by_ands, length-seconds}

@@ -4,7 +4,7 @@ use Rattle.std.specs.Prelude.{is_ok, OkIff}
 use Rattle.pc_rows.specs.Linear.{Linear, IsInRange, is_in_range, negation}
 use Rattle.pc_rows.specs.declared.number.Past.{Past}
 use Rattle.pc_rows.proofs.Ranges.{to_test, to_not_test}
-use Rattle.pc_syntax.specs.Forms.{row_fits}
+use Rattle.pc_program.specs.Forms.{row_fits}
 
 pub ok_is : (r : Result Linear Past) (z : Linear) → OkIff r (IsInRange z) z → is_ok r ≡ is_in_range z
 ok_is (Ok r) z h = sym (to_test z h.0)

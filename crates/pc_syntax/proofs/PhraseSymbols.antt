@@ -4,10 +4,10 @@ use Rattle.std.specs.Prelude.{nat_lt}
 use Rattle.std.specs.List.{list_all}
 use Rattle.std.proofs.lemmas.Bool.{ltb-true}
 use Rattle.pc_grammar.specs.declared.symbol.Symbol.{Symbol}
-use Rattle.pc_grammar.specs.declared.symbol.Terminal.{Terminal}
-use Rattle.pc_grammar.specs.declared.symbol.Terminal.TheVariants as terminal
+use Rattle.pc_language.specs.declared.terminal.Terminal.{Terminal}
+use Rattle.pc_language.specs.declared.terminal.Terminal.TheVariants as terminal
 use Rattle.pc_grammar.specs.declared.limits.Counts.{Counts}
-use Rattle.pc_grammar.specs.declared.limits.TheConstants.{COMPARISONS}
+use Rattle.pc_language.specs.declared.limits.TheConstants.{COMPARISONS}
 use Rattle.pc_grammar.specs.declared.fault.ParseFault.{ParseFault}
 use Rattle.pc_grammar.specs.declared.fault.ParseFault.TheVariants.{TooDeep, TooLong}
 use Rattle.pc_grammar.specs.declared.tree.ExprTree.{ExprTree}
@@ -17,7 +17,7 @@ use Rattle.pc_grammar.specs.Expressions as grammar
 use Rattle.pc_grammar.specs.Statements as stmts
 use Rattle.pc_grammar.specs.Limits.{keywords, of_expressions, ands_after, or_else, braces_after, signs_after, is_sign, counted, and_on, counts}
 use Rattle.pc_grammar.proofs.Sets.{parted, wider}
-use Rattle.pc_syntax.proofs.Results.{and_is, and_of}
+use Rattle.pc_program.proofs.Results.{and_is, and_of}
 use Rattle.pc_syntax.proofs.Phrases.{Over, one_over, map_over, both_over, either_over, maybe_over, many_over, dead_over}
 
 -- ---- the symbols of expressions and of conjunctions

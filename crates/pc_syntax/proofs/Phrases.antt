@@ -3,14 +3,14 @@ use Rattle.std.proofs.Common.{◌≡◌, ℕ, refl, sym, ◌∙◌, ap, subst, L
 use Rattle.std.specs.Prelude.{◌&&◌}
 use Rattle.std.specs.List.{list_all}
 use Rattle.pc_grammar.specs.declared.symbol.Symbol.{Symbol}
-use Rattle.pc_grammar.specs.declared.symbol.Terminal.{Terminal}
+use Rattle.pc_language.specs.declared.terminal.Terminal.{Terminal}
 use Rattle.pc_grammar.specs.declared.limits.Counts.{Counts}
 use Rattle.pc_grammar.specs.Combinators.{Text, Lang, is_map, is_both, is_either, is_maybe, is_many, is_dead}
 use Rattle.pc_grammar.specs.Terminals.{among, is_one_of}
 use Rattle.pc_grammar.specs.Limits.{and_on, counts}
 use Rattle.pc_grammar.proofs.Scans.{counts_append}
 use Rattle.pc_grammar.proofs.Sets.{within, wider}
-use Rattle.pc_syntax.proofs.Results.{and_is, and_of}
+use Rattle.pc_program.proofs.Results.{and_is, and_of}
 use Rattle.pc_syntax.proofs.SymbolFits.{fits}
 
 pub all_left : (p : Symbol → Bool) (u w : Text) → list_all p (u ++ w) ≡ true → list_all p u ≡ true

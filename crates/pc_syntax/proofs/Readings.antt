@@ -15,23 +15,19 @@ use Rattle.pc_grammar.specs.declared.tree.ProgramTree.{ProgramTree}
 use Rattle.pc_grammar.specs.declared.fault.ParseFault.{ParseFault}
 use Rattle.pc_grammar.proofs.Sound.{sound}
 use Rattle.pc_grammar.proofs.Unique as unique
-use Rattle.pc_syntax.specs.declared.program.Program.{Program}
+use Rattle.pc_program.specs.declared.program.Program.{Program}
 use Rattle.pc_syntax.specs.declared.fault.SourceFault.{SourceFault}
 use Rattle.pc_syntax.specs.declared.fault.SourceFault.TheVariants.{NoMemory}
-use Rattle.pc_syntax.specs.Forms.{bind}
+use Rattle.pc_program.specs.Forms.{bind}
 use Rattle.pc_syntax.specs.Faults.{of_tokens, of_tree, Gives}
 use Rattle.pc_grammar.specs.declared.symbol.Symbol.{Symbol}
 use Rattle.pc_text.specs.declared.place.Place.{Place}
 use Rattle.pc_syntax.specs.Trees.{fit_tree}
-use Rattle.pc_syntax.specs.ShownTrees.{short_tree}
 use Rattle.pc_syntax.specs.Context.{Content, checked, content_of}
 use Rattle.pc_syntax.specs.Spelling.{Spells, HasTree, IsParsed, NoTokens, NoTree, Faulty, Means, Alike, AlikeUnless, EachTextHasOne, EachTextHasNoMore, with_fault, tree_of, content_at, GivesProgram}
 use Rattle.pc_syntax.proofs.SymbolFits.{symbols_fit}
 use Rattle.pc_syntax.proofs.TreeFits.{derived_fits}
-use Rattle.pc_syntax.proofs.SpelledSymbols.{symbols_spelled}
-use Rattle.pc_syntax.proofs.SeenPrograms.{derived_short}
 use Rattle.pc_syntax.proofs.WalkedStmts.{walks_are_sane}
-use Rattle.pc_syntax.proofs.ShownPrograms.{walks_are_showable}
 
 -- ---- tokens and trees
 
@@ -79,14 +75,6 @@ parsed_fits src t h = derived_fits (length src) t (symbols_of src h.found) h.der
 pub tree_fits : (src : Bytes) (t : ProgramTree) → tree_of src ≡ Ok t → fit_tree (length src) t ≡ true
 unfolding TreeMeans
 tree_fits src t e = parsed_fits src t (subst (TreeMeans src) e (tree_means src))
-
--- and its program can be shown and read back
-pub parsed_is_short : (src : Bytes) (t : ProgramTree) → IsParsed src t → short_tree src t ≡ true
-parsed_is_short src t h = derived_short src t (symbols_of src h.found) h.derives.0 h.derives.1 (symbols_spelled src h.found h.tokens)
-
-pub tree_is_short : (src : Bytes) (t : ProgramTree) → tree_of src ≡ Ok t → short_tree src t ≡ true
-unfolding TreeMeans
-tree_is_short src t e = parsed_is_short src t (subst (TreeMeans src) e (tree_means src))
 
 -- ---- programs and faults
 
@@ -150,8 +138,7 @@ each_text_has_one src = by (content_at src) (answered src)
     by : (o : Result Content SourceFault) → Answered src o → (answer : Result Program SourceFault) × Means src answer
     by (Ok c) (t, h, e) =
         let sane = walks_are_sane src (length src) t c (parsed_fits src t h) e in
-        let shown = walks_are_showable src t c (parsed_is_short src t h) e in
-        (Ok (record { place = c.place; names = c.names; body = c.body; sane = sane; shown = shown }), record { tree = t; parsed = h; kept = e })
+        (Ok (record { place = c.place; names = c.names; body = c.body; sane = sane }), record { tree = t; parsed = h; kept = e })
     by (Err f) h = (Err f, h)
 
 -- ---- the steps of the code

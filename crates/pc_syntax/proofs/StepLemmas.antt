@@ -4,17 +4,17 @@ use Rattle.std.specs.Prelude.{◌≢◌}
 use Rattle.pc_text.specs.Bytes.{Bytes}
 use Rattle.pc_grammar.specs.declared.tree.StmtTree.{StmtTree, StmtTree-F, fold-StmtTree}
 use Rattle.pc_grammar.specs.declared.tree.StmtTree.TheOpen as open_stmt
-use Rattle.pc_syntax.specs.declared.tree.Stmt.{Stmt}
+use Rattle.pc_program.specs.declared.tree.Stmt.{Stmt}
 use Rattle.pc_syntax.specs.declared.fault.SourceFault.{SourceFault}
 use Rattle.pc_syntax.specs.declared.fault.SourceFault.TheVariants as fault
 use Rattle.pc_syntax.specs.declared.walk.Counted.{Counted}
 use Rattle.pc_syntax.specs.declared.walk.CountedList.{CountedList}
-use Rattle.pc_syntax.specs.Forms.{bind}
+use Rattle.pc_program.specs.Forms.{bind}
 use Rattle.pc_syntax.specs.Faults.{Gives}
 use Rattle.pc_syntax.specs.Context as walk
 use Rattle.pc_syntax.specs.Trees as trees
 use Rattle.pc_syntax.specs.Walks.{counted_behind}
-use Rattle.pc_syntax.proofs.Results.{and_is}
+use Rattle.pc_program.proofs.Results.{and_is}
 use Rattle.std.specs.Prelude.{IsErrAnd}
 
 abbrev total : List ℕ → ℕ

@@ -17,7 +17,7 @@ use Rattle.pc_grammar.specs.Symbols.{value_of, symbol_of, symbols_of}
 use Rattle.pc_grammar.specs.declared.symbol.Symbol.{Symbol}
 use Rattle.pc_rows.specs.Linear.{in_range}
 use Rattle.pc_syntax.specs.Trees.{fit_symbol}
-use Rattle.pc_syntax.proofs.Results.{and_is, and_of, at_most}
+use Rattle.pc_program.proofs.Results.{and_is, and_of, at_most}
 
 -- a symbol of a text of n bytes whose number is in range
 abbrev pub fits : ℕ → Symbol → Bool

@@ -5,8 +5,8 @@ use Rattle.std.specs.List.{list_all}
 use Rattle.pc_text.specs.declared.place.Place.{Place}
 use Rattle.pc_rows.specs.Linear.{in_range}
 use Rattle.pc_grammar.specs.declared.symbol.Symbol.{Symbol}
-use Rattle.pc_grammar.specs.declared.symbol.Terminal.{Terminal}
-use Rattle.pc_grammar.specs.declared.symbol.Terminal.TheVariants as terminal
+use Rattle.pc_language.specs.declared.terminal.Terminal.{Terminal}
+use Rattle.pc_language.specs.declared.terminal.Terminal.TheVariants as terminal
 use Rattle.pc_grammar.specs.declared.tree.ExprTree.{ExprTree}
 use Rattle.pc_grammar.specs.declared.tree.CompareTree.{CompareTree}
 use Rattle.pc_grammar.specs.declared.tree.TestTree.{TestTree}
@@ -23,7 +23,7 @@ use Rattle.pc_grammar.specs.Statements as stmts
 use Rattle.pc_grammar.specs.Programs as programs
 use Rattle.pc_grammar.specs.Limits.{of_expressions, start, Within}
 use Rattle.pc_syntax.specs.Trees.{fit_symbol, fit_expr, fit_each, fit_all, fit_test, fit_right, fit_stmt_step, fit_stmt, fit_stmts, fit_tree}
-use Rattle.pc_syntax.proofs.Results.{and_is, and_of}
+use Rattle.pc_program.proofs.Results.{and_is, and_of}
 use Rattle.pc_syntax.proofs.SymbolFits.{fits}
 use Rattle.pc_syntax.proofs.Phrases.{Over, Passes, one_passes, map_passes, pair, both_passes, either_passes, optional, maybe_passes, many_passes, dead_passes}
 use Rattle.pc_syntax.proofs.PhraseSymbols.{paren_over}

@@ -48,7 +48,3 @@ module _ (P : StmtTree → Type 0)
 
   pub by_stmt : (x : StmtTree) → P x
   by_stmt x = ind-StmtTree P stmt_layer x
-
-pub all_by : {A : Type 0} (P : A → Type 0) → ((x : A) → P x) → (xs : List A) → AllByRecursion P xs
-all_by P f [] = tt
-all_by P f (x ∷ xs) = (f x, all_by P f xs)

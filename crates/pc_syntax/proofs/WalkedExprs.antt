@@ -9,22 +9,22 @@ use Rattle.pc_rows.specs.declared.row.TheConstants.{VARIABLES}
 use Rattle.pc_grammar.specs.declared.symbol.Symbol.{Symbol}
 use Rattle.pc_grammar.specs.declared.tree.ExprTree.{ExprTree, fold-roll-ExprTree}
 use Rattle.pc_grammar.specs.declared.tree.ExprTree.TheOpen as expr_open
-use Rattle.pc_syntax.specs.declared.tree.Expr.{Expr}
-use Rattle.pc_syntax.specs.declared.tree.Expr.TheVariants as e
-use Rattle.pc_syntax.specs.declared.tree.Expr.TheOpen as expr
-use Rattle.pc_syntax.specs.declared.normal.AffineFault.{AffineFault}
-use Rattle.pc_syntax.specs.declared.normal.AffineFault.TheVariants.{Past}
+use Rattle.pc_program.specs.declared.tree.Expr.{Expr}
+use Rattle.pc_program.specs.declared.tree.Expr.TheVariants as e
+use Rattle.pc_program.specs.declared.tree.Expr.TheOpen as expr
+use Rattle.pc_program.specs.declared.normal.AffineFault.{AffineFault}
+use Rattle.pc_program.specs.declared.normal.AffineFault.TheVariants.{Past}
 use Rattle.pc_syntax.specs.declared.fault.SourceFault.{SourceFault}
 use Rattle.pc_syntax.specs.declared.walk.Formed.{Formed}
 use Rattle.pc_text.specs.Named.{number_of}
 use Rattle.pc_text.specs.Bytes.{Bytes}
-use Rattle.pc_syntax.specs.Forms.{bind, variable, product, form_step, form_of, fit_step, is_fit, is_affine}
-use Rattle.pc_syntax.specs.Sane.{below_step, names_below, sane_expr}
+use Rattle.pc_program.specs.Forms.{bind, variable, product, form_step, form_of, fit_step, is_fit, is_affine}
+use Rattle.pc_program.specs.Sane.{below_step, names_below, sane_expr}
 use Rattle.pc_syntax.specs.Context.{word, known, resolved, formed, expr_step, checked_expr}
 use Rattle.pc_syntax.specs.Trees.{fit_expr}
-use Rattle.pc_syntax.proofs.Results.{and_is, and_of, bind_keeps}
+use Rattle.pc_program.proofs.Results.{and_is, and_of, bind_keeps}
 use Rattle.pc_syntax.proofs.Trees.{by_expr}
-use Rattle.pc_syntax.proofs.Folds.{fold-num, fold-name, fold-neg, fold-add, fold-sub, fold-mul}
+use Rattle.pc_program.proofs.Folds.{fold-num, fold-name, fold-neg, fold-add, fold-sub, fold-mul}
 
 -- ---- names
 

@@ -13,24 +13,25 @@ use Rattle.pc_grammar.specs.declared.tree.RightTree.{RightTree}
 use Rattle.pc_grammar.specs.declared.tree.StmtTree.{StmtTree, StmtTree-F, map-StmtTree, roll-StmtTree, fold-roll-StmtTree}
 use Rattle.pc_grammar.specs.declared.tree.StmtTree.TheOpen as tree_stmt
 use Rattle.pc_grammar.specs.declared.tree.ProgramTree.{ProgramTree}
-use Rattle.pc_syntax.specs.declared.limits.TheConstants.{EDGES}
-use Rattle.pc_syntax.specs.declared.tree.Compare.{Compare}
-use Rattle.pc_syntax.specs.declared.tree.Stmt.{Stmt}
-use Rattle.pc_syntax.specs.declared.tree.Stmt.TheVariants as s
+use Rattle.pc_language.specs.declared.limits.TheConstants.{EDGES}
+use Rattle.pc_program.specs.declared.tree.Compare.{Compare}
+use Rattle.pc_program.specs.declared.tree.Stmt.{Stmt}
+use Rattle.pc_program.specs.declared.tree.Stmt.TheVariants as s
 use Rattle.pc_syntax.specs.declared.fault.SourceFault.{SourceFault}
 use Rattle.pc_syntax.specs.declared.fault.SourceFault.TheVariants as fault
 use Rattle.pc_syntax.specs.declared.walk.Counted.{Counted}
 use Rattle.pc_syntax.specs.declared.walk.CountedList.{CountedList}
 use Rattle.pc_text.specs.Named.{Named, number_of}
 use Rattle.pc_text.specs.Bytes.{Bytes}
-use Rattle.pc_syntax.specs.Forms.{bind}
-use Rattle.pc_syntax.specs.Sane as sane
+use Rattle.pc_program.specs.Forms.{bind}
+use Rattle.pc_program.specs.Sane as sane
 use Rattle.pc_syntax.specs.Context as walk
 use Rattle.pc_syntax.specs.Trees as trees
 use Rattle.pc_syntax.specs.Kept.{WalksAreSane}
-use Rattle.pc_syntax.proofs.Results.{and_is, and_of, at_most, bind_keeps}
-use Rattle.pc_syntax.proofs.Trees.{by_stmt, all_by}
-use Rattle.pc_syntax.proofs.Folds.{fold-set, fold-if, fold-while, fold-assert, fold-assume}
+use Rattle.pc_program.proofs.Results.{and_is, and_of, at_most, bind_keeps}
+use Rattle.pc_syntax.proofs.Trees.{by_stmt}
+use Rattle.pc_program.proofs.Stmts.{all_by}
+use Rattle.pc_program.proofs.Folds.{fold-set, fold-if, fold-while, fold-assert, fold-assume}
 use Rattle.pc_syntax.proofs.WalkedExprs.{resolved_test}
 use Rattle.pc_syntax.proofs.WalkedTests.{IsConjunction, IsTest, walked_all, walked_test, walked_right}
 

@@ -5,29 +5,29 @@ use Rattle.std.specs.List.{list_all}
 use Rattle.std.proofs.lemmas.Int.{ints}
 use Rattle.pc_rows.specs.Linear.{in_range}
 use Rattle.pc_rows.specs.declared.row.TheConstants.{VARIABLES}
-use Rattle.pc_grammar.specs.declared.tree.Op.{Op}
-use Rattle.pc_grammar.specs.declared.tree.Bound.{Bound}
-use Rattle.pc_grammar.specs.declared.tree.Bound.TheVariants as bound
-use Rattle.pc_grammar.specs.declared.tree.Choice.{Choice}
+use Rattle.pc_language.specs.declared.operator.Op.{Op}
+use Rattle.pc_language.specs.declared.choice.Bound.{Bound}
+use Rattle.pc_language.specs.declared.choice.Bound.TheVariants as bound
+use Rattle.pc_language.specs.declared.choice.Choice.{Choice}
 use Rattle.pc_grammar.specs.declared.tree.CompareTree.{CompareTree}
 use Rattle.pc_grammar.specs.declared.tree.TestTree.{TestTree}
 use Rattle.pc_grammar.specs.declared.tree.TestTree.TheVariants as tree_test
 use Rattle.pc_grammar.specs.declared.tree.RightTree.{RightTree}
-use Rattle.pc_grammar.specs.declared.limits.TheConstants.{COMPARISONS}
-use Rattle.pc_syntax.specs.declared.tree.Compare.{Compare}
-use Rattle.pc_syntax.specs.declared.tree.Test.{Test}
-use Rattle.pc_syntax.specs.declared.tree.Test.TheVariants as test
-use Rattle.pc_syntax.specs.declared.normal.AffineFault.TheVariants.{Past}
+use Rattle.pc_language.specs.declared.limits.TheConstants.{COMPARISONS}
+use Rattle.pc_program.specs.declared.tree.Compare.{Compare}
+use Rattle.pc_program.specs.declared.tree.Test.{Test}
+use Rattle.pc_program.specs.declared.tree.Test.TheVariants as test
+use Rattle.pc_program.specs.declared.normal.AffineFault.TheVariants.{Past}
 use Rattle.pc_syntax.specs.declared.fault.SourceFault.{SourceFault}
 use Rattle.pc_syntax.specs.declared.fault.SourceFault.TheVariants as fault
 use Rattle.pc_syntax.specs.declared.walk.Formed.{Formed}
 use Rattle.pc_text.specs.Bytes.{Bytes}
-use Rattle.pc_syntax.specs.Machine.{end_of}
-use Rattle.pc_syntax.specs.Forms.{bind, ok_or, form, is_unequal, rows_by, rows_of, row_fits}
-use Rattle.pc_syntax.specs.Sane as sane
+use Rattle.pc_language.specs.Ends.{end_of}
+use Rattle.pc_program.specs.Forms.{bind, ok_or, form, is_unequal, rows_by, rows_of, row_fits}
+use Rattle.pc_program.specs.Sane as sane
 use Rattle.pc_syntax.specs.Context as walk
 use Rattle.pc_syntax.specs.Trees as trees
-use Rattle.pc_syntax.proofs.Results.{and_is, and_of, bind_keeps}
+use Rattle.pc_program.proofs.Results.{and_is, and_of, bind_keeps}
 use Rattle.pc_syntax.proofs.WalkedExprs.{IsFormed, formed_sane, walked_expr}
 
 -- ---- one comparison

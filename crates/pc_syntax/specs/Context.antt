@@ -4,7 +4,7 @@ use Rattle.pc_text.specs.declared.place.Place.{Place}
 use Rattle.pc_rows.specs.Linear.{Linear, sum_of, difference_of, scaled_by, of_constant, fits}
 use Rattle.pc_rows.specs.declared.row.TheConstants.{VARIABLES}
 use Rattle.pc_grammar.specs.declared.symbol.Symbol.{Symbol}
-use Rattle.pc_grammar.specs.declared.tree.Choice.{Choice}
+use Rattle.pc_language.specs.declared.choice.Choice.{Choice}
 use Rattle.pc_grammar.specs.declared.tree.ExprTree.{ExprTree, ExprTree-F, fold-ExprTree}
 use Rattle.pc_grammar.specs.declared.tree.ExprTree.TheOpen as expr
 use Rattle.pc_grammar.specs.declared.tree.CompareTree.{CompareTree}
@@ -14,29 +14,29 @@ use Rattle.pc_grammar.specs.declared.tree.RightTree.{RightTree}
 use Rattle.pc_grammar.specs.declared.tree.StmtTree.{StmtTree, StmtTree-F, fold-StmtTree}
 use Rattle.pc_grammar.specs.declared.tree.StmtTree.TheOpen as stmt
 use Rattle.pc_grammar.specs.declared.tree.ProgramTree.{ProgramTree}
-use Rattle.pc_syntax.specs.declared.normal.AffineFault.{AffineFault}
-use Rattle.pc_syntax.specs.declared.normal.AffineFault.TheVariants as affine
+use Rattle.pc_program.specs.declared.normal.AffineFault.{AffineFault}
+use Rattle.pc_program.specs.declared.normal.AffineFault.TheVariants as affine
 use Rattle.pc_syntax.specs.declared.fault.SourceFault.{SourceFault}
 use Rattle.pc_syntax.specs.declared.fault.SourceFault.TheVariants as fault
-use Rattle.pc_syntax.specs.declared.limits.TheConstants.{EDGES}
+use Rattle.pc_language.specs.declared.limits.TheConstants.{EDGES}
 use Rattle.pc_syntax.specs.Faults.{source_fault}
-use Rattle.pc_syntax.specs.declared.tree.Expr.{Expr}
-use Rattle.pc_syntax.specs.declared.tree.Expr.TheVariants as e
-use Rattle.pc_syntax.specs.declared.tree.Compare.{Compare}
-use Rattle.pc_syntax.specs.declared.tree.Test.{Test}
-use Rattle.pc_syntax.specs.declared.tree.Test.TheVariants as t
-use Rattle.pc_syntax.specs.declared.tree.Right.{Right}
-use Rattle.pc_syntax.specs.declared.tree.Stmt.{Stmt}
-use Rattle.pc_syntax.specs.declared.tree.Stmt.TheVariants as s
-use Rattle.pc_syntax.specs.declared.program.Program.{Program}
+use Rattle.pc_program.specs.declared.tree.Expr.{Expr}
+use Rattle.pc_program.specs.declared.tree.Expr.TheVariants as e
+use Rattle.pc_program.specs.declared.tree.Compare.{Compare}
+use Rattle.pc_program.specs.declared.tree.Test.{Test}
+use Rattle.pc_program.specs.declared.tree.Test.TheVariants as t
+use Rattle.pc_program.specs.declared.tree.Right.{Right}
+use Rattle.pc_program.specs.declared.tree.Stmt.{Stmt}
+use Rattle.pc_program.specs.declared.tree.Stmt.TheVariants as s
+use Rattle.pc_program.specs.declared.program.Program.{Program}
 use Rattle.pc_syntax.specs.declared.walk.Formed.{Formed}
 use Rattle.pc_syntax.specs.declared.walk.Counted.{Counted}
 use Rattle.pc_syntax.specs.declared.walk.CountedList.{CountedList}
 use Rattle.pc_text.specs.Named.{Named, number_of}
 use Rattle.pc_text.specs.Bytes.{Bytes}
-use Rattle.pc_syntax.specs.Forms.{bind, product, variable, is_unequal, rows_by, fit_rows}
-use Rattle.pc_syntax.specs.Sane.{is_either}
-use Rattle.pc_syntax.specs.Machine.{end_of}
+use Rattle.pc_program.specs.Forms.{bind, product, variable, is_unequal, rows_by, fit_rows}
+use Rattle.pc_program.specs.Sane.{is_either}
+use Rattle.pc_language.specs.Ends.{end_of}
 
 -- the bytes that spell a symbol
 abbrev pub word : Bytes → Symbol → Bytes

@@ -6,8 +6,8 @@ use Rattle.pc_text.specs.declared.token.LexFault.{LexFault}
 use Rattle.pc_text.specs.declared.token.LexFault.TheVariants as lex
 use Rattle.pc_grammar.specs.declared.fault.ParseFault.{ParseFault}
 use Rattle.pc_grammar.specs.declared.fault.ParseFault.TheVariants as parse
-use Rattle.pc_syntax.specs.declared.normal.AffineFault.{AffineFault}
-use Rattle.pc_syntax.specs.declared.normal.AffineFault.TheVariants as affine
+use Rattle.pc_program.specs.declared.normal.AffineFault.{AffineFault}
+use Rattle.pc_program.specs.declared.normal.AffineFault.TheVariants as affine
 use Rattle.pc_syntax.specs.declared.fault.SourceFault.{SourceFault}
 use Rattle.pc_syntax.specs.declared.fault.SourceFault.TheVariants as fault
 

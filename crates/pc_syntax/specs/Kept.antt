@@ -3,7 +3,7 @@ use Rattle.std.specs.Prelude.{◌≡◌, ℕ, true, Ok}
 use Rattle.pc_grammar.specs.declared.tree.ProgramTree.{ProgramTree}
 use Rattle.pc_text.specs.Bytes.{Bytes}
 use Rattle.pc_syntax.specs.Context.{Content, checked}
-use Rattle.pc_syntax.specs.Sane.{is_sane}
+use Rattle.pc_program.specs.Sane.{is_sane}
 use Rattle.pc_syntax.specs.Trees.{fit_tree}
 
 -- the names and the body that the context rules make of a tree of the grammar are those of a program

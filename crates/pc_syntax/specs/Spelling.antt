@@ -10,10 +10,10 @@ use Rattle.pc_grammar.specs.Symbols.{symbols_of}
 use Rattle.pc_grammar.specs.Parsing as grammar
 use Rattle.pc_grammar.specs.declared.tree.ProgramTree.{ProgramTree}
 use Rattle.pc_grammar.specs.declared.fault.ParseFault.{ParseFault}
-use Rattle.pc_syntax.specs.declared.program.Program.{Program}
+use Rattle.pc_program.specs.declared.program.Program.{Program}
 use Rattle.pc_syntax.specs.declared.fault.SourceFault.{SourceFault}
 use Rattle.pc_syntax.specs.declared.fault.SourceFault.TheVariants.{NoMemory}
-use Rattle.pc_syntax.specs.Forms.{bind}
+use Rattle.pc_program.specs.Forms.{bind}
 use Rattle.pc_syntax.specs.Faults.{of_tokens, of_tree}
 use Rattle.pc_syntax.specs.Context.{Content, checked, content_of}
 

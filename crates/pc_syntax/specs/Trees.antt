@@ -3,9 +3,9 @@
 use Rattle.std.specs.Prelude.{ℕ, nat_le, List, [], ◌∷◌, length, map, Option, Some, None, Bool, true, false, ◌&&◌}
 use Rattle.std.specs.List.{list_all}
 use Rattle.pc_grammar.specs.declared.symbol.Symbol.{Symbol}
-use Rattle.pc_grammar.specs.declared.tree.Bound.{Bound}
-use Rattle.pc_grammar.specs.declared.tree.Bound.TheVariants as bound
-use Rattle.pc_grammar.specs.declared.tree.Choice.{Choice}
+use Rattle.pc_language.specs.declared.choice.Bound.{Bound}
+use Rattle.pc_language.specs.declared.choice.Bound.TheVariants as bound
+use Rattle.pc_language.specs.declared.choice.Choice.{Choice}
 use Rattle.pc_grammar.specs.declared.tree.ExprTree.{ExprTree, ExprTree-F, fold-ExprTree}
 use Rattle.pc_grammar.specs.declared.tree.ExprTree.TheOpen as expr
 use Rattle.pc_grammar.specs.declared.tree.CompareTree.{CompareTree}
@@ -15,9 +15,9 @@ use Rattle.pc_grammar.specs.declared.tree.RightTree.{RightTree}
 use Rattle.pc_grammar.specs.declared.tree.StmtTree.{StmtTree, StmtTree-F, fold-StmtTree}
 use Rattle.pc_grammar.specs.declared.tree.StmtTree.TheOpen as stmt
 use Rattle.pc_grammar.specs.declared.tree.ProgramTree.{ProgramTree}
-use Rattle.pc_grammar.specs.declared.limits.TheConstants.{COMPARISONS}
+use Rattle.pc_language.specs.declared.limits.TheConstants.{COMPARISONS}
 use Rattle.pc_rows.specs.Linear.{in_range}
-use Rattle.pc_syntax.specs.Sane.{all_true}
+use Rattle.pc_program.specs.Sane.{all_true}
 
 -- a symbol of a text of n bytes
 abbrev pub fit_symbol : ℕ → Symbol → Bool

@@ -1,9 +1,9 @@
 -- The walk in the middle of a list: what is made already, and what the rest gives.
 use Rattle.std.specs.Prelude.{List, ◌++◌, Result, Ok}
-use Rattle.pc_syntax.specs.Forms.{bind}
+use Rattle.pc_program.specs.Forms.{bind}
 use Rattle.pc_syntax.specs.declared.fault.SourceFault.{SourceFault}
 use Rattle.pc_syntax.specs.declared.walk.CountedList.{CountedList}
-use Rattle.pc_syntax.specs.declared.tree.Stmt.{Stmt}
+use Rattle.pc_program.specs.declared.tree.Stmt.{Stmt}
 
 -- items, and behind them those of an answer
 abbrev pub behind : {A : Type 0} → List A → Result (List A) SourceFault → Result (List A) SourceFault

@@ -1,4 +1,4 @@
-use crate::normal::AffineFault;
+use pc_program::AffineFault;
 use pc_grammar::ParseFault;
 use pc_text::{LexFault, NoMemory, Place};
 use std::alloc::AllocError;

@@ -1,31 +1,18 @@
-//! Programs: what they mean, how they are read from bytes and how they are shown.
+//! From bytes to programs: the parse tree of a text, and the context rules over it.
 #![tactic(auto)]
 
-mod bounds;
 mod fault;
 mod laws;
-mod limits;
-mod loops;
-mod normal;
-mod program;
 mod reading;
-mod rows;
-mod showing;
-mod tree;
 mod walk;
 
 pub use fault::SourceFault;
-pub use laws::{
-    canonical_texts_are_cut, forms_are_right, rows_are_right, show_reads_back,
-    texts_have_one_answer, walks_are_sane,
+pub use laws::{texts_have_one_answer, walks_are_sane};
+pub use pc_language::{Bound, COMPARISONS, Choice, EDGES, Op};
+pub use pc_program::{
+    AffineFault, Compare, Compares, Expr, Program, Right, Stmt, Stmts, Test, affine, first_loop,
+    form_of, forms_are_right, rows_are_right, rows_of,
 };
-pub use limits::EDGES;
-pub use loops::first_loop;
-pub use normal::{AffineFault, affine};
-pub use pc_grammar::{Bound, COMPARISONS, Choice, Op};
+pub use pc_show::show;
 pub use pc_text::Names;
-pub use program::Program;
 pub use reading::read;
-pub use rows::{form_of, rows_of};
-pub use showing::show;
-pub use tree::{Compare, Compares, Expr, Right, Stmt, Stmts, Test};

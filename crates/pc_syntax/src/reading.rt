@@ -1,7 +1,7 @@
 //! From bytes to programs.
 
 ghost use Rattle.std.specs.Prelude.{◌≢◌, ◌<◌, ◌-◌, ◌^◌, length, Result, IfOk, IfErr};
-ghost use Rattle.pc_syntax.specs.declared.program.Program.{Program};
+ghost use Rattle.pc_program.specs.declared.program.Program.{Program};
 ghost use Rattle.pc_syntax.specs.declared.fault.SourceFault.{SourceFault};
 ghost use Rattle.pc_syntax.specs.declared.fault.SourceFault.TheVariants.{NoMemory};
 ghost use Rattle.pc_syntax.specs.Spelling.{Spells, Faulty, Means, AlikeUnless, GivesProgram, with_fault, tree_of, content_at};
@@ -9,7 +9,7 @@ ghost use Rattle.pc_grammar.specs.Parsing.{parsed};
 ghost use Rattle.pc_syntax.specs.Faults.{Gives, of_tree};
 
 use crate::fault::SourceFault;
-use crate::program::Program;
+use pc_program::Program;
 use crate::walk::walk_tree;
 use pc_grammar::{ProgramTree, Symbol, parse, symbols};
 use pc_text::{Place, place_of, tokens};

@@ -3,7 +3,6 @@
 ghost use Rattle.std.specs.Prelude.{◌≡◌, true, length};
 ghost use Rattle.pc_syntax.specs.Context.{checked};
 ghost use Rattle.pc_syntax.specs.Spelling.{GivesProgram};
-ghost use Rattle.pc_syntax.specs.ShownTrees.{short_tree};
 ghost use Rattle.pc_syntax.specs.Trees.{fit_tree};
 
 mod conditions;
@@ -12,8 +11,8 @@ mod names;
 mod stmts;
 
 use crate::fault::SourceFault;
-use crate::program::Program;
-use crate::tree::{Expr, Stmt};
+use pc_program::Program;
+use pc_program::{Expr, Stmt};
 use crate::walk::names::declared;
 use crate::walk::stmts::stmts;
 use pc_grammar::ProgramTree;
@@ -45,8 +44,7 @@ pub struct CountedList {
 /// The program of a parse tree, or the first context rule that it breaks: the names, and then the
 /// statements, over an edge that leads into the program.
 pub fn walk_tree(alloc: Global, src: &[u8], tree: &ProgramTree) -> Result<Program, SourceFault>
-    requires fit { fit_tree (length src.now) tree.now ≡ true }
-    requires short { short_tree src.now tree.now ≡ true }
+    requires { fit_tree (length src.now) tree.now ≡ true }
     ensures { GivesProgram result (checked src.now tree.now) }
 {
     let names = declared(alloc, src, tree)?;

@@ -10,4 +10,10 @@ pub mod NumeralTexts
 pub mod NumeralReads
 pub mod NameLemmas
 pub mod LineLemmas
+pub mod LineLists
+pub mod Splits
+pub mod Decimals
+pub mod NumeralWords
+pub mod WordLists
+pub mod PlainWords
 mod Examples

@@ -19,7 +19,8 @@ use Rattle.pc_text.proofs.NumeralLengths.{above}
 
 -- ---- digits
 
-digit_class : (b : ℕ) → 48 ≤ b → b ≤ 57 → class b ≡ Digit
+-- a byte from 48 to 57 is a digit
+pub digit_class : (b : ℕ) → 48 ≤ b → b ≤ 57 → class b ≡ Digit
 unfolding class
 digit_class b low high = grind (arith, nat_tests)
 
@@ -152,10 +153,6 @@ pub numeral_integer : (w : Bytes) → IsNumeral w → numeral (integer_of w) ≡
 numeral_integer w (inl e) = ap (λ z. numeral (integer_of z)) e ∙ numeral_zero ∙ sym e
 numeral_integer w (inr (inl p)) = ap numeral (integer_positive w p) ∙ numeral_pos (natural_of w) (natural_some w p) ∙ text_natural w p
 numeral_integer w (inr (inr (v, e, p))) = ap (λ z. numeral (integer_of z)) e ∙ numeral_neg (natural_of v) (natural_some v p) ∙ ap (λ z. 45 ∷ z) (text_natural v p) ∙ sym e
-
--- two numbers have two numerals
-pub numeral_injective : (m n : ℤ) → numeral m ≡ numeral n → m ≡ n
-numeral_injective m n e = sym (integer_numeral m) ∙ ap integer_of e ∙ integer_numeral n
 
 -- ---- what is printed
 

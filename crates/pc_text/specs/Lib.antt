@@ -9,3 +9,4 @@ pub mod Answers
 pub mod Numerals
 pub mod Named
 pub mod Lines
+pub mod Words

@@ -1,7 +1,13 @@
 -- The lines of a text, one after another.
-use Rattle.std.specs.Prelude.{◌≡◌, ℕ, Bool, true, false, [], ◌∷◌, ◌++◌}
+use Rattle.std.specs.Prelude.{◌≡◌, ℕ, Bool, true, false, List, [], ◌∷◌, ◌++◌}
+use Rattle.std.specs.List.{slice_split}
 use Rattle.pc_text.specs.Bytes.{Bytes}
 use Rattle.pc_text.specs.Lexemes.{in_line, EachPasses}
+use Rattle.pc_text.specs.Places.{is_line_feed}
+
+-- the lines of a text, each ended by a line feed, and what follows the last
+abbrev pub lines : Bytes → List Bytes
+lines b = slice_split is_line_feed b
 
 -- what is left of a text, and the number of the line that comes next
 pub record Left : Type 0 where

@@ -1,5 +1,5 @@
 -- Canonical numerals: how numbers are written, and how they are read.
-use Rattle.std.specs.Prelude.{◌≡◌, ◌≤◌, ℕ, zero, suc, ◌+◌, ◌==◌, nat_eq, nat_le, nat_lt, ◌&&◌, if◌then◌else◌, [], ◌∷◌, ◌++◌, length, take, drop, map, false, ◌⊎◌, Option, Some, None, ℤ, pos, negsuc, neg_ℤ, unsigned_abs}
+use Rattle.std.specs.Prelude.{◌≡◌, ◌≤◌, ℕ, Bool, zero, suc, ◌+◌, ◌==◌, nat_eq, nat_le, nat_lt, ◌&&◌, if◌then◌else◌, [], ◌∷◌, ◌++◌, length, take, drop, map, false, ◌⊎◌, Option, Some, None, ℤ, pos, negsuc, neg_ℤ, unsigned_abs}
 use Rattle.std.specs.Int.Digits.{digits_of}
 use Rattle.pc_text.specs.declared.token.TheConstants.{LARGEST}
 use Rattle.pc_text.specs.Bytes.{Bytes}
@@ -33,6 +33,10 @@ numeral (negsuc n) = 45 ∷ natural_text (suc n)
 -- a number that is read: at most LARGEST from 0
 abbrev pub IsInRange : ℤ → Type 0
 IsInRange n = unsigned_abs n ≤ LARGEST
+
+-- the same as a test
+abbrev pub is_in_range : ℤ → Bool
+is_in_range n = nat_le (unsigned_abs n) LARGEST
 
 -- a front of a text that is a canonical numeral, and no longer front is one
 pub record IsLongestNumeral (w b : Bytes) : Type 0 where

@@ -2,7 +2,7 @@
 use Rattle.std.proofs.Common.{◌≡◌, ℕ, zero, suc, List, [], ◌∷◌, length, set, ap, refl}
 use Rattle.std.specs.List.{AllByRecursion as Each}
 use Rattle.pc_rows.specs.Linear.{Linear, IsOver}
-use Rattle.pc_graph.specs.declared.point.PointInfo.{PointInfo}
+use Rattle.pc_flow.specs.declared.point.PointInfo.{PointInfo}
 use Rattle.pc_lower.specs.Annotation.{AreOver, no_rows}
 
 pub none_long : (points : List PointInfo) → length (no_rows points) ≡ length points

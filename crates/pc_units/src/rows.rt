@@ -41,7 +41,13 @@ fn before(r: &Row, variable: u32, form: &Row, low: i32, high: i32) -> Result<Row
     requires variable { variable < VARIABLES }
     requires ordered { low ≤ℤ high }
 {
-    substitute(r, variable, form, i128::from(low), i128::from(high))
+    substitute(
+        r,
+        variable,
+        form,
+        Some(i128::from(low)),
+        Some(i128::from(high)),
+    )
 }
 
 #[test]

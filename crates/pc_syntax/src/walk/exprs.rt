@@ -4,13 +4,13 @@ ghost use Rattle.std.specs.Prelude.{◌≡◌, ◌<◌, ◌≤◌, true, length,
 ghost use Rattle.pc_rows.specs.Linear.{fits, scaled_by, sum_of, difference_of};
 ghost use Rattle.pc_rows.specs.declared.row.TheConstants.{VARIABLES};
 ghost use Rattle.pc_syntax.specs.Context as spec;
-ghost use Rattle.pc_syntax.specs.Forms.{product, variable};
+ghost use Rattle.pc_program.specs.Forms.{product, variable};
 ghost use Rattle.pc_syntax.specs.Faults.{Gives};
 ghost use Rattle.pc_syntax.specs.Trees.{fit_expr};
 
 use crate::fault::SourceFault;
-use crate::normal::{AffineFault, difference, multiple, product, sum};
-use crate::tree::Expr;
+use pc_program::{AffineFault, difference, multiple, product, sum};
+use pc_program::Expr;
 use crate::walk::Formed;
 use crate::walk::names::resolved;
 use pc_grammar::ExprTree;

@@ -7,10 +7,10 @@ ghost use Rattle.pc_syntax.specs.Faults.{Gives};
 ghost use Rattle.pc_syntax.specs.Trees.{fit_each, fit_test, fit_stmt, fit_stmts};
 
 use crate::fault::SourceFault;
-use crate::limits::EDGES;
-use crate::tree::Stmt;
-use crate::walk::conditions::{conjunction, right, test, test_edges};
+use pc_language::EDGES;
+use pc_program::Stmt;
 use crate::walk::names::resolved;
+use crate::walk::conditions::{conjunction, right, test, test_edges};
 use crate::walk::{Counted, CountedList};
 use pc_grammar::{CompareTree, StmtTree, TestTree};
 use pc_text::{Names, Place};

@@ -1,5 +1,5 @@
-use Rattle.std.proofs.Common.{◌≡◌, None, rules, refl, sym, ◌∙◌}
-use Rattle.pc_syntax.specs.Loops.{first, whiles_of}
+use Rattle.std.proofs.Common.{◌≡◌, arith, None, rules, refl, sym, ◌∙◌}
+use Rattle.pc_program.specs.Loops.{first, whiles_of}
 use Rattle.pc_app.specs.Answers.{CertifyAnswers}
 use Rattle.pc_app.specs.Answers.AnalysisAnswers.{IsAnalysed}
 use Rattle.pc_app.proofs.InferLemmas.{short_text, not_built_yet}
@@ -20,6 +20,6 @@ returns c =
       inferred = is.inferred;
       accepted = is.accepted;
       spelled = spelled;
-      short = short_text certificate text is.one spelled;
+      short = short_text c.args.program.now certificate text (let one = is.one in omega arith) is.accepted spelled;
       status_is = refl;
     })

@@ -1,6 +1,6 @@
 use Rattle.std.proofs.Common.{◌≡◌, length, take, drop}
 use Rattle.std.specs.List.{flat_map, AllByRecursion}
-use Rattle.pc_cert.specs.Certificate.{entry_rows, SaysOf}
+use Rattle.pc_certificate.specs.Certificate.{entry_rows, SaysOf}
 use Rattle.pc_cert.specs.Conditions.{line_text, rows_text}
 use Rattle.pc_cert.proofs.alternatives.lines.Given as goal
 

@@ -1,5 +1,5 @@
 use Rattle.std.proofs.Common.{◌≡◌, ◌<◌, ◌∙◌, arith, ap, length}
-use Rattle.pc_cert.specs.Certificate.{Certificate}
+use Rattle.pc_certificate.specs.Certificate.{Certificate}
 use Rattle.pc_cert.proofs.Saying.{said}
 use Rattle.pc_cert.proofs.alternatives.show_condition.Goals as goal
 

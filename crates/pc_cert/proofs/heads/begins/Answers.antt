@@ -1,10 +1,11 @@
 use Rattle.std.proofs.Common.{◌≡◌, ◌∙◌, ap, sym, refl, false}
 use Rattle.std.specs.Prelude.{bytes_eq, codes}
 use Rattle.pc_cert.specs.Faults.{Next}
-use Rattle.pc_cert.specs.Words.{words, is_word}
+use Rattle.pc_text.specs.Words.{words}
+use Rattle.pc_cert.specs.Forms.{is_word}
 use Rattle.pc_cert.specs.Readers.{goes_on}
 use Rattle.pc_cert.proofs.Counted.{form_is}
-use Rattle.pc_cert.proofs.WordLists.{end_test, alternative_test}
+use Rattle.pc_cert.proofs.NamedLines.{end_test, alternative_test}
 use Rattle.pc_cert.proofs.heads.begins.Goals as goal
 
 pub returns-then-not-eq-clause-value : goal.returns-then-not-eq-clause-value

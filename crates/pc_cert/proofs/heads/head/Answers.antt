@@ -1,5 +1,5 @@
 use Rattle.std.proofs.Common.{◌∙◌, sym}
-use Rattle.pc_cert.specs.Words.{words}
+use Rattle.pc_text.specs.Words.{words}
 use Rattle.pc_cert.proofs.Counted.{head_is}
 use Rattle.pc_cert.proofs.heads.head.Goals as goal
 

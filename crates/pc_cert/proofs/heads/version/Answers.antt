@@ -1,9 +1,9 @@
 use Rattle.std.proofs.Common.{◌≡◌, ◌∙◌, ap, sym, false}
 use Rattle.std.specs.Prelude.{bytes_eq, codes}
 use Rattle.pc_cert.specs.Faults.{Version}
-use Rattle.pc_cert.specs.Words.{words}
+use Rattle.pc_text.specs.Words.{words}
 use Rattle.pc_cert.proofs.Counted.{form_is}
-use Rattle.pc_cert.proofs.WordLists.{version_test}
+use Rattle.pc_cert.proofs.NamedLines.{version_test}
 use Rattle.pc_cert.proofs.heads.version.Goals as goal
 
 pub returns-else-eq : goal.returns-else-eq

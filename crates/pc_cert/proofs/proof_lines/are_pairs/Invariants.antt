@@ -1,5 +1,5 @@
 use Rattle.std.proofs.Common.{◌≡◌, length}
-use Rattle.pc_cert.specs.Words.{are_pairs}
+use Rattle.pc_cert.specs.Forms.{are_pairs}
 use Rattle.pc_cert.proofs.proof_lines.are_pairs.Given as goal
 
 abbrev pub invariant-pairs : goal.invariant-pairs

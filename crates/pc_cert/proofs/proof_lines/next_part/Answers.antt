@@ -6,7 +6,7 @@ use Rattle.pc_cert.proofs.proof_lines.next_part.Goals as goal
 
 pub returns-in-Some-part_of : goal.returns-in-Some-part_of
 returns-in-Some-part_of c =
-    let word = c.of-multiplier.ensures in
+    let word = c.of-multiplier.ensures.value in
     let least = c.args.least in
     part_found c.args.number least c.in-Some-count_of.index c.in-Some.index.now c.in-Some-next.multiplier.now c.args.words.now c.next.new.self c.next-2.new.self
     c.in-Some.ensures c.in-Some-next.ensures (sym c.in-Some-count_of.is ∙ c.count_of.ensures) (λ e. c.in_default-multiplier.not-Other (word ∙ e))
@@ -14,7 +14,7 @@ returns-in-Some-part_of c =
 
 pub returns-in-None : goal.returns-in-None
 returns-in-None c =
-    let word = c.of-multiplier.ensures in
+    let word = c.of-multiplier.ensures.value in
     let least = c.args.least in
     told c.broken.result (next_part c.args.number least c.args.words.now ≡ Err c.broken.result)
     (part_broken c.args.number least c.in-Some-count_of.index c.in-Some.index.now c.in-Some-next.multiplier.now c.args.words.now c.next.new.self c.next-2.new.self

@@ -1,7 +1,7 @@
 use Rattle.std.proofs.Common.{◌≡◌, ◌<◌, ◌∙◌, ◌+◌, ◌-◌, suc, ap, sym, arith, true, false, length, length-append, [], ◌∷◌, Ok, Err}
 use Rattle.std.proofs.lemmas.Result.{err_from_is_err_and}
 use Rattle.std.proofs.lemmas.List.{append-nil}
-use Rattle.pc_cert.specs.declared.certificate.TheConstants.{ALTERNATIVES}
+use Rattle.pc_certificate.specs.declared.certificate.TheConstants.{ALTERNATIVES}
 use Rattle.pc_cert.specs.Readers.{begins, annotated_reader, alternatives_reader}
 use Rattle.pc_cert.proofs.Repeats.{behind}
 use Rattle.pc_cert.proofs.Rounds.{begins_fault, ends, annotated_fault, one_more}

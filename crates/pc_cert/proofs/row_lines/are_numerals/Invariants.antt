@@ -1,5 +1,5 @@
 use Rattle.std.proofs.Common.{◌≡◌, ◌-◌}
-use Rattle.pc_cert.specs.Words.{are_numerals}
+use Rattle.pc_cert.specs.Forms.{are_numerals}
 use Rattle.pc_cert.proofs.row_lines.are_numerals.Given as goal
 
 abbrev pub invariant-words : goal.invariant-words

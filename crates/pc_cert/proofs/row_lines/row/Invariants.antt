@@ -1,6 +1,6 @@
 use Rattle.std.proofs.Common.{◌≡◌, ◌-◌}
 use Rattle.pc_cert.specs.LineReaders.{row_from, row_of}
-use Rattle.pc_cert.specs.Words.{words}
+use Rattle.pc_text.specs.Words.{words}
 use Rattle.pc_cert.proofs.row_lines.row.Given as goal
 
 abbrev pub invariant-variables : goal.invariant-variables

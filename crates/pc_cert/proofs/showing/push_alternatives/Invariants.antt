@@ -1,6 +1,6 @@
 use Rattle.std.proofs.Common.{◌≡◌, ◌++◌, take}
 use Rattle.std.specs.List.{AllByRecursion, flat_map}
-use Rattle.pc_cert.specs.Certificate.{IsAnnotated}
+use Rattle.pc_certificate.specs.Certificate.{IsAnnotated}
 use Rattle.pc_cert.specs.CertificateTexts.{lines_text, alternative_lines}
 use Rattle.pc_cert.proofs.showing.push_alternatives.Given as goal
 

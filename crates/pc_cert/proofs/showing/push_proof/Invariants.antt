@@ -1,5 +1,5 @@
 use Rattle.std.proofs.Common.{◌≡◌, ◌++◌, take}
-use Rattle.pc_cert.proofs.WordLists.{joined}
+use Rattle.pc_text.proofs.WordLists.{joined}
 use Rattle.pc_cert.proofs.Shown.{proof_words}
 use Rattle.pc_cert.proofs.showing.push_proof.Given as goal
 

@@ -1,7 +1,7 @@
 use Rattle.std.proofs.Common.{◌≡◌, ◌∙◌, ◌++◌, ◌∷◌, [], ap, pos}
 use Rattle.std.specs.Prelude.{codes}
 use Rattle.pc_text.specs.Numerals.{numeral}
-use Rattle.pc_cert.specs.Certificate.{Certificate}
+use Rattle.pc_certificate.specs.Certificate.{Certificate}
 use Rattle.pc_cert.specs.CertificateTexts.{line_text, version_line, sizes_line}
 use Rattle.pc_cert.proofs.Shown.{three_numbers, added_by}
 use Rattle.pc_cert.proofs.showing.push_sizes.Goals as goal

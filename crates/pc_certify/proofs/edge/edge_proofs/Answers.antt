@@ -1,6 +1,6 @@
 use Rattle.std.proofs.Common.{◌≡◌, ℕ, ap, subst, ◌∙◌, slice_get}
 use Rattle.std.specs.Prelude.{IfSome}
-use Rattle.pc_graph.specs.Arc.{Arc}
+use Rattle.pc_flow.specs.Arc.{Arc}
 use Rattle.pc_lower.specs.Annotation.{rows_at}
 use Rattle.pc_lower.proofs.Annotations.{head_told}
 use Rattle.pc_certify.proofs.Edges.{asked_covered, edge_is}

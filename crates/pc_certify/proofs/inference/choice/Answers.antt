@@ -1,5 +1,5 @@
 use Rattle.std.proofs.Common.{Option, Ok, subst}
-use Rattle.pc_cert.specs.declared.certificate.Annotated.{Annotated}
+use Rattle.pc_certificate.specs.declared.certificate.Annotated.{Annotated}
 use Rattle.pc_certify.specs.Inferring.{CandidateIs}
 use Rattle.pc_certify.proofs.Choosing.{choice_is}
 use Rattle.pc_certify.proofs.inference.choice.Goals as goal

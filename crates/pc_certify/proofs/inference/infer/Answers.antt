@@ -1,6 +1,6 @@
 use Rattle.std.proofs.Common.{sym, subst}
 use Rattle.std.specs.List.{AllByRecursion}
-use Rattle.pc_cert.specs.Certificate.{Certificate, IsShowable, condition_of}
+use Rattle.pc_certificate.specs.Certificate.{Certificate, IsShowable, condition_of}
 use Rattle.pc_replay.specs.Accepts.{Accepts}
 use Rattle.pc_replay.proofs.Sound.{accepted_is_safe}
 use Rattle.pc_certify.specs.Inferring.{IsExact, AreEntryRows, HasNeeds}

@@ -1,5 +1,5 @@
 use Rattle.std.proofs.Common.{◌≡◌, drop}
-use Rattle.pc_elim.specs.Elimination.{combined_at}
+use Rattle.pc_elim.specs.Places.{combined_at}
 use Rattle.pc_elim.specs.Settling.{contradiction_of}
 use Rattle.pc_elim.proofs.contradiction.pairs.Given as goal
 

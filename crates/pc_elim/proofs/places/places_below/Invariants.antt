@@ -1,5 +1,5 @@
 use Rattle.std.proofs.Common.{◌≡◌, ◌++◌, drop}
-use Rattle.pc_elim.specs.Elimination.{places_below}
+use Rattle.pc_elim.specs.Places.{places_below}
 use Rattle.pc_elim.proofs.places.places_below.Given as goal
 
 abbrev pub invariant-loop-i : goal.invariant-loop-i

@@ -1,5 +1,5 @@
 use Rattle.std.proofs.Common.{◌≡◌, ◌∙◌, ap, sym, arith, true}
-use Rattle.pc_grammar.specs.declared.symbol.Terminal.TheVariants as terminal
+use Rattle.pc_language.specs.declared.terminal.Terminal.TheVariants as terminal
 use Rattle.pc_grammar.specs.Expressions as spec
 use Rattle.pc_grammar.specs.Terminals.{among, the}
 use Rattle.pc_grammar.specs.Combinators.{Got, starts}

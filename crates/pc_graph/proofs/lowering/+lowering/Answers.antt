@@ -1,7 +1,7 @@
 use Rattle.std.proofs.Common.{◌≡◌, ◌+◌, ◌<◌, subst, arith}
 use Rattle.std.proofs.lemmas.Result.{on_ok_weaker}
-use Rattle.pc_syntax.specs.Forms.{rows_all}
-use Rattle.pc_syntax.proofs.Weights.{weight, weights, item_smaller}
+use Rattle.pc_program.specs.Forms.{rows_all}
+use Rattle.pc_program.proofs.Weights.{weight, weights, item_smaller}
 use Rattle.pc_graph.proofs.Drawing.{if_done, while_done, then_room, doing_here, doing_next}
 use Rattle.pc_graph.proofs.Growing.{list_grows}
 use Rattle.pc_graph.proofs.Ready.{sane_slice, ready_few, assert_ready, assume_ready, if_ready, while_ready}

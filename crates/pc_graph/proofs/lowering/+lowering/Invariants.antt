@@ -1,6 +1,6 @@
 use Rattle.std.proofs.Common.{◌+◌, ◌*◌}
-use Rattle.pc_syntax.specs.declared.tree.Stmt.TheVariants.{If, While}
-use Rattle.pc_syntax.proofs.Weights.{weight, weights}
+use Rattle.pc_program.specs.declared.tree.Stmt.TheVariants.{If, While}
+use Rattle.pc_program.proofs.Weights.{weight, weights}
 use Rattle.pc_graph.proofs.Drawing.{Doing}
 use Rattle.pc_graph.proofs.lowering.+lowering.Given as goal
 

@@ -1,6 +1,6 @@
 use Rattle.std.proofs.Common.{◌≡◌, ◌<◌, sym, subst, length, List}
 use Rattle.pc_text.specs.declared.place.Place.{Place}
-use Rattle.pc_graph.specs.Shape.{IsGraph}
+use Rattle.pc_flow.specs.Shape.{IsGraph}
 use Rattle.pc_graph.proofs.Graphs.{room, places_few, graph_made, graph_kept}
 use Rattle.pc_graph.proofs.lowering.lower.Goals as goal
 

@@ -1,6 +1,6 @@
 use Rattle.pc_rows.specs.Linear.{is_in_range, negation}
 use Rattle.pc_rows.proofs.Ranges.{from_test}
-use Rattle.pc_syntax.proofs.Results.{and_is}
+use Rattle.pc_program.proofs.Results.{and_is}
 use Rattle.pc_graph.proofs.row.negation.Goals as goal
 
 pub unreachable-requires : goal.unreachable-requires

@@ -1,7 +1,7 @@
 use Rattle.std.proofs.Common.{List, ap, arith, length, length-append, refl}
 use Rattle.std.proofs.lemmas.Result.{err_from_is_err_and}
 use Rattle.pc_rows.specs.Linear.{Linear}
-use Rattle.pc_graph.specs.Carry.{back_all}
+use Rattle.pc_flow.specs.Carry.{back_all}
 use Rattle.pc_lower.specs.Operations.{Carries, carries}
 use Rattle.pc_lower.proofs.Answering.{left_all, left_next, first_is, push_refused}
 use Rattle.pc_lower.proofs.Carried.{carry_next, back_next, all_carried}

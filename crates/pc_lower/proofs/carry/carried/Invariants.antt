@@ -1,5 +1,5 @@
 use Rattle.std.proofs.Common.{◌≡◌, ◌++◌, drop, length}
-use Rattle.pc_graph.specs.Carry.{back_all}
+use Rattle.pc_flow.specs.Carry.{back_all}
 use Rattle.pc_lower.specs.Operations.{carries}
 use Rattle.pc_lower.proofs.Answering.{Left}
 use Rattle.pc_lower.proofs.carry.carried.Given as goal

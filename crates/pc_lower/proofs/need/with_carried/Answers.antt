@@ -1,7 +1,7 @@
 use Rattle.std.proofs.Common.{[], ◌∷◌}
 use Rattle.std.proofs.lemmas.Result.{err_from_is_err_and}
 use Rattle.pc_rows.specs.Joins.{joined}
-use Rattle.pc_graph.specs.Carry.{back_all}
+use Rattle.pc_flow.specs.Carry.{back_all}
 use Rattle.pc_lower.specs.Operations.{Joins, carries}
 use Rattle.pc_lower.proofs.Answering.{left_all, refused}
 use Rattle.pc_lower.proofs.Asking.{carried_joined}

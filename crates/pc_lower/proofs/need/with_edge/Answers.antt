@@ -1,6 +1,6 @@
 use Rattle.std.proofs.Common.{◌≡◌, rules}
 use Rattle.std.proofs.lemmas.Result.{err_from_is_err_and}
-use Rattle.pc_graph.specs.declared.what.What.TheVariants.{Test, Check}
+use Rattle.pc_flow.specs.declared.what.What.TheVariants.{Test, Check}
 use Rattle.pc_rows.specs.Joins.{joined}
 use Rattle.pc_lower.specs.Need.{asked}
 use Rattle.pc_lower.proofs.Asking.{over_test, over_check, over_check_refused}

@@ -1,5 +1,5 @@
 use Rattle.std.proofs.Common.{ap, ◌∙◌}
-use Rattle.pc_graph.specs.Arc.{Arc}
+use Rattle.pc_flow.specs.Arc.{Arc}
 use Rattle.pc_replay.specs.Rule.{rows_at}
 use Rattle.pc_replay.proofs.Edges.{edge_accepts, edge_refuses, edge_goes_on}
 use Rattle.pc_replay.proofs.edge.edge.Goals as goal

@@ -1,6 +1,6 @@
 use Rattle.std.proofs.Common.{length, sym, ap, ◌∙◌, arith}
 use Rattle.pc_rows.specs.Linear.{Linear}
-use Rattle.pc_graph.specs.Arc.{Arc}
+use Rattle.pc_flow.specs.Arc.{Arc}
 use Rattle.pc_replay.proofs.Edges.{asked_else, owed_long}
 use Rattle.pc_replay.proofs.edge.owed.Goals as goal
 

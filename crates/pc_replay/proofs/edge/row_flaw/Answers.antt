@@ -1,6 +1,6 @@
 use Rattle.std.proofs.Common.{◌++◌, ap, ◌∙◌}
-use Rattle.pc_graph.specs.Arc.{Arc}
-use Rattle.pc_graph.specs.Carry.{test_rows}
+use Rattle.pc_flow.specs.Arc.{Arc}
+use Rattle.pc_flow.specs.Carry.{test_rows}
 use Rattle.pc_replay.specs.Flaws.{flaw}
 use Rattle.pc_replay.proofs.Flawless.{row_past, row_found}
 use Rattle.pc_replay.proofs.edge.row_flaw.Goals as goal

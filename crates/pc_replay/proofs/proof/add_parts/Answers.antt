@@ -1,7 +1,7 @@
 use Rattle.std.proofs.Common.{drop, ◌+◌, ◌++◌}
 use Rattle.std.proofs.lemmas.Result.{err_from_is_err_and}
 use Rattle.pc_rows.proofs.Adding.{drop_got, part_fits, parts_go_on, parts_fit_on, parts_fit_back}
-use Rattle.pc_graph.specs.Carry.{test_rows}
+use Rattle.pc_flow.specs.Carry.{test_rows}
 use Rattle.pc_replay.proofs.proof.add_parts.Goals as goal
 
 pub returns-in_err-add : goal.returns-in_err-add

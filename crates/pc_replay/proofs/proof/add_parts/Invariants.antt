@@ -1,6 +1,6 @@
 use Rattle.std.proofs.Common.{◌≡◌, ◌++◌, drop}
 use Rattle.pc_rows.specs.Shows.{with_parts, PartsFit}
-use Rattle.pc_graph.specs.Carry.{test_rows}
+use Rattle.pc_flow.specs.Carry.{test_rows}
 use Rattle.pc_replay.proofs.proof.add_parts.Given as goal
 
 abbrev pub invariant-loop-i : goal.invariant-loop-i

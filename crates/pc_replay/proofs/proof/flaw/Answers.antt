@@ -1,5 +1,5 @@
 use Rattle.std.proofs.Common.{◌++◌, sym, ap, ◌∙◌}
-use Rattle.pc_graph.specs.Carry.{test_rows}
+use Rattle.pc_flow.specs.Carry.{test_rows}
 use Rattle.pc_replay.specs.Flaws.{names_premises}
 use Rattle.pc_replay.proofs.Flawless.{names_if, flaw_past, flaw_found}
 use Rattle.pc_replay.proofs.proof.flaw.Goals as goal

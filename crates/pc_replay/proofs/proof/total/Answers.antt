@@ -1,6 +1,6 @@
 use Rattle.std.proofs.Common.{◌++◌}
 use Rattle.std.proofs.lemmas.Result.{err_from_is_err_and}
-use Rattle.pc_graph.specs.Carry.{test_rows}
+use Rattle.pc_flow.specs.Carry.{test_rows}
 use Rattle.pc_replay.proofs.Summing.{product_past, parts_past, total_done}
 use Rattle.pc_replay.proofs.proof.total.Goals as goal
 

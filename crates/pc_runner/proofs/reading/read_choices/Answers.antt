@@ -3,11 +3,11 @@ use Rattle.std.specs.Int.{w128}
 use Rattle.std.specs.List.{list_all}
 use Rattle.std.proofs.lemmas.Int.{to_z-of_z}
 use Rattle.std.proofs.lemmas.Result.{err_from_is_err_and}
-use Rattle.pc_text.specs.Lines.{IsLine}
+use Rattle.pc_text.specs.Lines.{lines, IsLine}
 use Rattle.pc_runner.specs.declared.fault.ScriptFault.TheVariants as fault
 use Rattle.pc_runner.specs.declared.script.TheConstants.{CHOICES}
-use Rattle.pc_runner.specs.Range.{is_in_range}
-use Rattle.pc_runner.specs.Scripts.{choices_of, choice_of, lines}
+use Rattle.pc_text.specs.Numerals.{is_in_range}
+use Rattle.pc_runner.specs.Scripts.{choices_of, choice_of}
 use Rattle.pc_runner.proofs.ScriptLines.{choices_last, choices_fault, choices_many, choices_more, gives_fault, all_appended, all_replicated, few_more}
 use Rattle.pc_runner.proofs.reading.read_choices.Goals as goal
 

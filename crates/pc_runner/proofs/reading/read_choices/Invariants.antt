@@ -1,8 +1,9 @@
 use Rattle.std.proofs.Common.{◌≡◌, ◌≤◌, [], length, true}
 use Rattle.std.specs.List.{list_all}
 use Rattle.pc_runner.specs.declared.script.TheConstants.{CHOICES}
-use Rattle.pc_runner.specs.Range.{is_in_range}
-use Rattle.pc_runner.specs.Scripts.{choices_of, lines}
+use Rattle.pc_text.specs.Numerals.{is_in_range}
+use Rattle.pc_text.specs.Lines.{lines}
+use Rattle.pc_runner.specs.Scripts.{choices_of}
 use Rattle.pc_runner.proofs.reading.read_choices.Given as goal
 
 -- the choices so far, with the lines that are left, give the answer

@@ -1,7 +1,7 @@
 use Rattle.std.proofs.Common.{◌≡◌, ◌∙◌, ◌+◌, ap, sym, Err, []}
 use Rattle.std.proofs.lemmas.Result.{err_from_is_err_and}
-use Rattle.pc_text.specs.Lines.{Left, IsLine}
-use Rattle.pc_runner.specs.Scripts.{entry_of, choices_of, lines}
+use Rattle.pc_text.specs.Lines.{lines, Left, IsLine}
+use Rattle.pc_runner.specs.Scripts.{entry_of, choices_of}
 use Rattle.pc_runner.proofs.ScriptLines.{script_none, script_open, script_entry_fault, script_choices_fault, script_is, reads_fault}
 use Rattle.pc_runner.proofs.reading.read_script.Goals as goal
 

@@ -1,5 +1,5 @@
 use Rattle.std.proofs.Common.{◌∙◌, sym, subst}
-use Rattle.pc_syntax.specs.Machine.{started}
+use Rattle.pc_program.specs.Machine.{started}
 use Rattle.pc_runner.specs.Runs.{SaysOf}
 use Rattle.pc_runner.proofs.Sayings.{verdict_says, says_only}
 use Rattle.pc_runner.proofs.runs.run.Goals as goal

@@ -1,4 +1,4 @@
-use Rattle.pc_cert.specs.Words.{words}
+use Rattle.pc_text.specs.Words.{words}
 use Rattle.pc_cert.specs.Faults.{Next}
 use Rattle.pc_cert.specs.Readers.{goes_on, line_value}
 use Rattle.pc_cert.proofs.Told.{line_read, gives_same}

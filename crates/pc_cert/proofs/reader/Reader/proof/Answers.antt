@@ -1,5 +1,5 @@
 use Rattle.std.proofs.Common.{subst}
-use Rattle.pc_cert.specs.Words.{words}
+use Rattle.pc_text.specs.Words.{words}
 use Rattle.pc_cert.specs.Faults.{Proof}
 use Rattle.pc_cert.specs.Readers.{proof_value}
 use Rattle.pc_cert.specs.Answers.{Gives}

@@ -1,6 +1,6 @@
 use Rattle.std.proofs.Common.{◌≡◌, true, drop}
 use Rattle.std.specs.List.{list_all}
-use Rattle.pc_syntax.specs.Forms.{row_fits}
+use Rattle.pc_program.specs.Forms.{row_fits}
 use Rattle.pc_graph.specs.Drawn.{with_tests}
 use Rattle.pc_graph.specs.Ways.{apart}
 use Rattle.pc_graph.proofs.draft.Draft.spread.Given as goal

@@ -1,5 +1,5 @@
 use Rattle.std.proofs.Common.{◌≡◌, ◌≤◌, ◌+◌, ◌-◌, ◌*◌, drop}
-use Rattle.pc_syntax.specs.declared.limits.TheConstants.{EDGES}
+use Rattle.pc_language.specs.declared.limits.TheConstants.{EDGES}
 use Rattle.pc_syntax.specs.Context.{checked_stmts}
 use Rattle.pc_syntax.specs.Walks.{counted_behind}
 use Rattle.pc_syntax.proofs.StepLemmas.{weight, weights}

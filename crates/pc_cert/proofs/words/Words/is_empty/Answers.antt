@@ -1,7 +1,0 @@
-use Rattle.std.proofs.Common.{◌∙◌, ap}
-use Rattle.pc_cert.specs.Words.{is_empty}
-use Rattle.pc_cert.proofs.WordLists.{none_left}
-use Rattle.pc_cert.proofs.words.Words.is_empty.Goals as goal
-
-pub returns : goal.returns
-returns c = none_left c.self.inside.rest c.is_none.result c.is_none.ensures ∙ ap is_empty c.self.view_is

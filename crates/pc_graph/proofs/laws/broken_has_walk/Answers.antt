@@ -1,5 +1,0 @@
-use Rattle.pc_graph.proofs.Witness as proof
-use Rattle.pc_graph.proofs.laws.broken_has_walk.Goals as goal
-
-pub returns : goal.returns
-returns c = proof.broken_has_walk

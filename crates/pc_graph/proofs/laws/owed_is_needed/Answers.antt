@@ -1,5 +1,0 @@
-use Rattle.pc_graph.proofs.Witness as proof
-use Rattle.pc_graph.proofs.laws.owed_is_needed.Goals as goal
-
-pub returns : goal.returns
-returns c = proof.owed_is_needed

@@ -1,5 +1,0 @@
-use Rattle.pc_graph.proofs.Closed as proof
-use Rattle.pc_graph.proofs.laws.paid_is_safe.Goals as goal
-
-pub returns : goal.returns
-returns c = proof.paid_is_safe

@@ -1,0 +1,6 @@
+pub mod Showable
+pub mod ShownTrees
+pub mod Matched
+pub mod CutTexts
+pub mod Bare
+pub mod ReadsBack

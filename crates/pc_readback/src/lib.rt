@@ -1,0 +1,7 @@
+//! What canonical texts spell: a leaf, on which nothing stands. Each law is the contract of a function
+//! that does nothing.
+#![tactic(auto)]
+
+mod laws;
+
+pub use laws::{canonical_texts_are_cut, show_reads_back, spelled_are_showable};

@@ -1,0 +1,6 @@
+//! The canonical text of a program.
+#![tactic(auto)]
+
+mod showing;
+
+pub use showing::show;

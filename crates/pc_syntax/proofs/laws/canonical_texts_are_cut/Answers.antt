@@ -1,5 +1,0 @@
-use Rattle.pc_syntax.proofs.CanonicalTexts as proof
-use Rattle.pc_syntax.proofs.laws.canonical_texts_are_cut.Goals as goal
-
-pub returns : goal.returns
-returns c = proof.canonical_texts_are_cut

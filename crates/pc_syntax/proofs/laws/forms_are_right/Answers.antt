@@ -1,5 +1,0 @@
-use Rattle.pc_syntax.proofs.FormLemmas.{forms_are_right}
-use Rattle.pc_syntax.proofs.laws.forms_are_right.Goals as goal
-
-pub returns : goal.returns
-returns c = forms_are_right

@@ -1,8 +1,0 @@
-use Rattle.pc_syntax.proofs.ReadBack.{show_reads_back, nothing_else_reads_back}
-use Rattle.pc_syntax.proofs.laws.show_reads_back.Goals as goal
-
-pub returns-clause-spelled : goal.returns-clause-spelled
-returns-clause-spelled c = show_reads_back
-
-pub returns-clause-only : goal.returns-clause-only
-returns-clause-only c = nothing_else_reads_back

@@ -1,6 +1,0 @@
-use Rattle.pc_rows.specs.Linear.{difference_of}
-use Rattle.pc_rows.proofs.Ranges.{from_test}
-use Rattle.pc_syntax.proofs.rows.difference.Goals as goal
-
-pub unreachable-requires : goal.unreachable-requires
-unreachable-requires c = c.in-Err.ensures (from_test (difference_of c.args.a.now c.args.b.now) c.requires)
