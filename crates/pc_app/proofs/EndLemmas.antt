@@ -1,19 +1,21 @@
 -- What follows from how a call ends.
-use Rattle.std.proofs.Common.{◌≡◌, ℕ, ◌<◌, ◌≤◌, ◌↔◌, ◌⊎◌, inl, inr, List, [], ◌∷◌, length, Option, arith, subst}
-use Rattle.pc_ports.specs.Outside.{Holding, Held, Rose, Appended}
+use Rattle.std.proofs.Common.{◌≡◌, sym, ℕ, ◌↔◌, ◌⊎◌, inl, inr, List, Option, arith, subst}
+use Rattle.pc_ports.specs.Outside.{Holding, Nothing, Held, Rose, Appended}
 use Rattle.pc_text.specs.Bytes.{Bytes}
-use Rattle.pc_app.specs.declared.status.TheConstants.{DONE, USAGE, REFUSED, STORE_FAILED, SINK_FAILED, NO_MEMORY, TOO_LONG}
-use Rattle.pc_app.specs.declared.limits.TheConstants.{SOURCE_BYTES}
-use Rattle.pc_app.specs.Words.{Order, Infer, Certify, Replay, Run, Show, IsOrder, IsInfer, IsCertify, IsReplay, IsRun, IsShow, IsPlain, files_of}
 use Rattle.pc_program.specs.declared.program.Program.{Program}
-use Rattle.pc_app.specs.Answers.{AnalysisAnswers, InferAnswers, OnSource, OrderAnswers}
-use Rattle.pc_app.specs.Silences.{LacksSome, OrderIsLost, LacksFile}
-use Rattle.pc_app.specs.Promises.{OfBytes, PrintedSuffices, PrintedIsExact, PrintedCertificate, PrintedRuling, PrintedAccepted, PrintedVerdict, PrintedProgram, IsVerdict, IsRuling, AreThere, IsAnswered, IsOnlyStatus, HasAnswered, IsCutOff, Ends}
+use Rattle.pc_app.specs.declared.status.TheConstants.{DONE, USAGE, REFUSED, MALFORMED, STORE_FAILED, SINK_FAILED, NO_MEMORY, TOO_LONG}
+use Rattle.pc_app.specs.Words.{Order, Infer, Certify, Replay, Run, Show, IsOrder, IsInfer, IsCertify, IsReplay, IsRun, IsShow, IsPlain, files_of}
+use Rattle.pc_app.specs.Files.{OnFile}
+use Rattle.pc_app.specs.Kinds.{source_kind}
+use Rattle.pc_app.specs.Answers.{OrderAnswers}
+use Rattle.pc_app.specs.Silences.{IsLost, IsLostBehind, OrderIsLost, LacksFile}
+use Rattle.pc_app.specs.Causes.{IsRuling, IsVerdict, OrderIsTooLong, OrderIsRefused, OrderIsMalformed, OrderIsMeant, IsOutcome}
+use Rattle.pc_app.specs.Promises.{OfBytes, PrintedSuffices, PrintedIsExact, PrintedCertificate, PrintedRuling, PrintedAccepted, PrintedVerdict, PrintedProgram, AreTold, AreThere, IsAnswered, IsOnlyStatus, HasAnswered, IsCutOff, Ends}
 use Rattle.pc_app.specs.Promises.Ends.{Answered, Unread, CutOff, Starved}
-use Rattle.pc_app.specs.Analysed.{IsAnalysed}
-use Rattle.pc_app.proofs.AnswerLemmas.{same_order, order_answers, answers_is_answered, answers_usage, of_nothing, of_bytes, analysis_too_long, analysis_refused, analysis_done}
+use Rattle.pc_app.proofs.AnswerLemmas.{same_order, order_answers, answers_is_answered, answers_usage, of_nothing, of_bytes}
 use Rattle.pc_app.proofs.PromiseLemmas.{infer_is_exact, certify_is_right, replay_is_ruling, run_is_verdict, show_is_text, of_source_accepts, suffices_of}
-use Rattle.pc_app.proofs.OnlyLemmas.{words_once}
+use Rattle.pc_app.proofs.OnlyLemmas.{order_once, words_once}
+use Rattle.pc_app.proofs.StatusLemmas.{too_long_answer, refused_answer, malformed_answer, too_long_cause, refused_cause, malformed_cause, outcome, are_there}
 
 module _ (words : List Bytes) (held : Bytes → Holding) (old new : Option Bytes) (store_before store_now sink_before sink_now status : ℕ) where
   abbrev pub Ended : Type 0
@@ -30,8 +32,8 @@ module _ (words : List Bytes) (held : Bytes → Holding) (old new : Option Bytes
   order_of ends is order ordered = let a = answered ends is in (a.text, order_answers words held status a.text order ordered a.answers, a.written)
 
   -- a promise on the bytes of the source of an order
-  promised : (A : Program → ℕ → Bytes → Type 0) (P : Bytes → Type 0) (name : Bytes) (text : Bytes) → OnSource A (held name) status text → ((bytes : Bytes) → held name ≡ Held bytes → P bytes) → OfBytes P (held name)
-  promised A P name text file here = of_bytes P (held name) here (λ e. of_nothing _ _ _ (held name) status text e file)
+  promised : (A : Program → ℕ → Bytes → Type 0) (P : Bytes → Type 0) (name : Bytes) (text : Bytes) → OnFile source_kind A (held name) status text → ((bytes : Bytes) → held name ≡ Held bytes → P bytes) → OfBytes P (held name)
+  promised A P name text file here = of_bytes P (held name) here (λ e. of_nothing source_kind A (held name) status text e file)
 
   pub exact : Ended → (name : Bytes) → IsInfer words name → status ≡ DONE → OfBytes (λ bytes. PrintedIsExact bytes old new) (held name)
   exact ends name infer done =
@@ -67,23 +69,30 @@ module _ (words : List Bytes) (held : Bytes → Holding) (old new : Option Bytes
       let a = order_of ends (omega arith, omega arith, omega arith) (Show name) show in
       promised _ _ name a.0 a.1 (λ bytes e. show_is_text (held name) bytes status a.0 old new e a.2 done a.1)
 
-  infer_of : Ended → IsAnswered status → (name : Bytes) → IsInfer words name → (text : Bytes) × OnSource (AnalysisAnswers InferAnswers) (held name) status text
-  infer_of ends is name infer = let a = order_of ends is (Infer name) infer in (a.0, a.1)
-
-  done_of : (p : Program) (status : ℕ) (text : Bytes) → InferAnswers p status text → status ≡ DONE
-  done_of p status text a = a.status_is
-
   pub usage : Ended → IsAnswered status → (status ≡ USAGE) ↔ (IsPlain words → ⊥)
   usage ends is = let a = answered ends is in answers_usage words held status a.text a.answers
 
   pub only : Ended → IsAnswered status → IsOnlyStatus words held status
   only ends is other text answers told = let a = answered ends is in words_once other text status a.text words held told answers a.answers
 
-  pub too_long : Ended → (name bytes : Bytes) → IsInfer words name → held name ≡ Held bytes → IsAnswered status → (status ≡ TOO_LONG) ↔ (SOURCE_BYTES < length bytes)
-  too_long ends name bytes infer e is = let a = infer_of ends is name infer in analysis_too_long InferAnswers done_of (held name) bytes status a.0 e a.1
+  -- a status comes where its cause stands, since the order has no other
+  comes : Ended → IsAnswered status → (order : Order) → IsOrder words order → AreTold held (files_of order) → (other : ℕ) → (text : Bytes) × OrderAnswers held order other text → status ≡ other
+  comes ends is order ordered told other x = let a = order_of ends is order ordered in sym (order_once other x.0 status a.0 held order told x.1 a.1)
 
-  pub refused : Ended → (name bytes : Bytes) → IsInfer words name → held name ≡ Held bytes → IsAnswered status → length bytes ≤ SOURCE_BYTES → (status ≡ REFUSED) ↔ (IsAnalysed bytes → ⊥)
-  refused ends name bytes infer e is short = let a = infer_of ends is name infer in analysis_refused InferAnswers done_of (held name) bytes status a.0 e short a.1
+  pub too_long : Ended → (order : Order) → IsOrder words order → AreTold held (files_of order) → IsAnswered status → (status ≡ TOO_LONG) ↔ OrderIsTooLong held order
+  too_long ends order ordered told is =
+      let a = order_of ends is order ordered in
+      (λ e. too_long_cause status a.0 held order told e a.1, λ h. comes ends is order ordered told TOO_LONG (too_long_answer held order h))
+
+  pub refused : Ended → (order : Order) → IsOrder words order → AreTold held (files_of order) → IsAnswered status → (status ≡ REFUSED) ↔ OrderIsRefused held order
+  refused ends order ordered told is =
+      let a = order_of ends is order ordered in
+      (λ e. refused_cause status a.0 held order told e a.1, λ h. comes ends is order ordered told REFUSED (refused_answer held order h))
+
+  pub malformed : Ended → (order : Order) → IsOrder words order → AreTold held (files_of order) → IsAnswered status → (status ≡ MALFORMED) ↔ OrderIsMalformed held order
+  malformed ends order ordered told is =
+      let a = order_of ends is order ordered in
+      (λ e. malformed_cause status a.0 held order told e a.1, λ h. comes ends is order ordered told MALFORMED (malformed_answer held order h))
 
   pub store : Ended → status ≡ STORE_FAILED → LacksFile words held store_before store_now
   store (Answered a) e = absurd ((answers_is_answered words held status a.text a.answers).0 e)
@@ -105,31 +114,35 @@ module _ (words : List Bytes) (held : Bytes → Holding) (old new : Option Bytes
   unwritten (CutOff s cut) (inr e) = absurd (omega arith)
   unwritten (Starved s same) e = same
 
-  no_file_lost : (before now : ℕ) (names : List Bytes) → AreThere held names → LacksSome held names → ⊥
-  no_file_lost before now [] there lacks = lacks
-  no_file_lost before now (name ∷ names) there (inl nothing) = there.0 nothing
-  no_file_lost before now (name ∷ names) there (inr more) = no_file_lost before now names there.1 more
+  -- no file is lost that is there, where the count of faults did not rise
+  not_lost : (name : Bytes) → (held name ≡ Nothing → ⊥) → (Rose store_before store_now → ⊥) → IsLost (held name) store_before store_now → ⊥
+  not_lost name there kept (inl rose) = kept rose
+  not_lost name there kept (inr nothing) = there nothing
+
+  not_lost_behind : (source other : Bytes) → (held source ≡ Nothing → ⊥) → (held other ≡ Nothing → ⊥) → (Rose store_before store_now → ⊥) →
+      IsLost (held source) store_before store_now ⊎ IsLostBehind (held source) (held other) store_before store_now → ⊥
+  not_lost_behind source other there also kept (inl lost) = not_lost source there kept lost
+  not_lost_behind source other there also kept (inr behind) = not_lost other also kept behind.lost
+
+  none_lost : (order : Order) → AreThere held (files_of order) → (Rose store_before store_now → ⊥) → OrderIsLost held store_before store_now order → ⊥
+  none_lost (Infer source) there kept lost = not_lost source there.0 kept lost
+  none_lost (Certify source) there kept lost = not_lost source there.0 kept lost
+  none_lost (Replay source certificate) there kept lost = not_lost_behind source certificate there.0 there.1.0 kept lost
+  none_lost (Run source script) there kept lost = not_lost_behind source script there.0 there.1.0 kept lost
+  none_lost (Show source) there kept lost = not_lost source there.0 kept lost
 
   pub answers : Ended → (order : Order) → IsOrder words order → AreThere held (files_of order) → (Rose store_before store_now → ⊥) → (Rose sink_before sink_now → ⊥) → IsAnswered status ⊎ (status ≡ NO_MEMORY)
   answers (Answered a) order is there store_kept sink_kept = inl (answers_is_answered words held status a.text a.answers)
   answers (Unread s lacks same) order is there store_kept sink_kept =
       let same = same_order words order lacks.order is lacks.named in
-      absurd (elim (subst (λ (o : Order). OrderIsLost held store_before store_now o) same lacks.lost) [
-        | inl rose ↦ store_kept rose
-        | inr some ↦ no_file_lost store_before store_now (files_of order) there some
-      ])
+      absurd (none_lost order there store_kept (subst (λ (o : Order). OrderIsLost held store_before store_now o) same lacks.lost))
   answers (CutOff s cut) order is there store_kept sink_kept = absurd (sink_kept cut.cause)
   answers (Starved s same) order is there store_kept sink_kept = inr s
 
-  pub complete : Ended → (name bytes : Bytes) → IsInfer words name → held name ≡ Held bytes → length bytes ≤ SOURCE_BYTES → IsAnalysed bytes →
-      (Rose store_before store_now → ⊥) → (Rose sink_before sink_now → ⊥) → (status ≡ DONE) ⊎ (status ≡ NO_MEMORY)
-  complete (Answered a) name bytes infer e short analysed store_kept sink_kept =
-      inl (analysis_done InferAnswers done_of (held name) bytes status a.text e short (order_answers words held status a.text (Infer name) infer a.answers) analysed)
-  complete (Unread s lacks same) name bytes infer e short analysed store_kept sink_kept =
-      let same = same_order words (Infer name) lacks.order infer lacks.named in
-      absurd (elim (subst (λ (o : Order). OrderIsLost held store_before store_now o) same lacks.lost) [
-        | inl rose ↦ store_kept rose
-        | inr nowhere ↦ elim nowhere [ inl there ↦ cc | inr none ↦ none ]
-      ])
-  complete (CutOff s cut) name bytes infer e short analysed store_kept sink_kept = absurd (sink_kept cut.cause)
-  complete (Starved s same) name bytes infer e short analysed store_kept sink_kept = inr s
+  pub complete : Ended → (order : Order) → IsOrder words order → AreTold held (files_of order) → OrderIsMeant held order →
+      (Rose store_before store_now → ⊥) → (Rose sink_before sink_now → ⊥) → IsOutcome order status ⊎ (status ≡ NO_MEMORY)
+  complete ends order ordered told meant store_kept sink_kept = by (answers ends order ordered (are_there held order meant) store_kept sink_kept)
+    where
+      by : IsAnswered status ⊎ (status ≡ NO_MEMORY) → IsOutcome order status ⊎ (status ≡ NO_MEMORY)
+      by (inl is) = let a = order_of ends is order ordered in inl (outcome status a.0 held order told meant a.1)
+      by (inr s) = inr s

@@ -4,9 +4,7 @@ use Rattle.std.proofs.lemmas.List.{take_all}
 use Rattle.pc_ports.specs.Outside.{Holding, Untold, Nothing, Held, TakenFrom}
 use Rattle.pc_text.specs.Bytes.{Bytes}
 use Rattle.pc_app.specs.declared.status.TheConstants.{TOO_LONG}
-use Rattle.pc_app.specs.Answers.{FileAnswers}
-use Rattle.pc_app.specs.Answers.FileAnswers.{IsTooLong}
-use Rattle.pc_app.specs.Reading.{HasBytes}
+use Rattle.pc_app.specs.Files.{HasBytes, IsTooLong}
 
 -- a front that is short enough is all of the bytes
 whole : (limit : ℕ) (bytes taken : Bytes) → taken ≡ take (limit + 1) bytes → length taken ≤ limit → taken ≡ bytes
@@ -22,10 +20,10 @@ has_bytes limit (Held bytes) taken from short = record { holds = whole limit byt
 
 -- a front that is too long is that of a file that is too long
 pub is_too_long :
-    (limit : ℕ) (long : Bytes) (A : Bytes → ℕ → Bytes → Type 0) (held : Holding) (taken : Bytes) (status : ℕ) (text : Bytes) →
-    TakenFrom held limit taken → limit < length taken → status ≡ TOO_LONG → text ≡ long → FileAnswers limit long A held status text
-is_too_long limit long A Untold taken status text from more s t = IsTooLong taken tt more s t
-is_too_long limit long A Nothing taken status text from more s t = absurd from
-is_too_long limit long A (Held bytes) taken status text from more s t =
+    (limit : ℕ) (long : Bytes) (held : Holding) (taken : Bytes) (status : ℕ) (text : Bytes) →
+    TakenFrom held limit taken → limit < length taken → status ≡ TOO_LONG → text ≡ long → IsTooLong limit long held status text
+is_too_long limit long Untold taken status text from more s t = record { bytes = taken; holds = tt; more = more; status_is = s; text_is = t }
+is_too_long limit long Nothing taken status text from more s t = absurd from
+is_too_long limit long (Held bytes) taken status text from more s t =
     let size = ap length from ∙ length-take (limit + 1) bytes in
-    IsTooLong bytes refl (omega arith) s t
+    record { bytes = bytes; holds = refl; more = omega arith; status_is = s; text_is = t }

@@ -4,8 +4,11 @@ pub mod OrderLemmas
 pub mod TextLemmas
 pub mod ScriptLemmas
 pub mod VerdictLemmas
+pub mod KindLemmas
 pub mod AnswerLemmas
 pub mod OnlyLemmas
+pub mod CauseLemmas
+pub mod StatusLemmas
 pub mod PromiseLemmas
 pub mod EndLemmas
 pub mod InferLemmas

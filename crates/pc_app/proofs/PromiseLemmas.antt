@@ -12,27 +12,30 @@ use Rattle.pc_replay.proofs.Ruled.{rule_is_meant}
 use Rattle.pc_app.proofs.Programs.{accepted_programs_are_safe}
 use Rattle.pc_app.specs.declared.status.TheConstants.{DONE}
 use Rattle.pc_app.specs.Rulings.{ruling_status, ruling_text}
-use Rattle.pc_app.specs.Answers.{AnalysisAnswers, InferAnswers, CertifyAnswers, ReplayAnswers, RunAnswers, ShowAnswers, OnSource, OnReplay, OnRun}
-use Rattle.pc_app.specs.Promises.{OfBytes, PrintedSuffices, PrintedIsExact, PrintedCertificate, PrintedRuling, PrintedAccepted, PrintedVerdict, PrintedProgram, IsVerdict, IsRuling}
-use Rattle.pc_app.proofs.AnswerLemmas.{source_read, script_read, certificate_read, analysed, of_bytes, of_nothing}
+use Rattle.pc_app.specs.Files.{OnFile}
+use Rattle.pc_app.specs.Kinds.{source_kind, script_kind, certificate_kind}
+use Rattle.pc_app.specs.Answers.{AnalysisAnswers, InferAnswers, CertifyAnswers, ReplayAnswers, RunAnswers, ShowAnswers, OnReplay, OnRun}
+use Rattle.pc_app.specs.Causes.{IsRuling, IsVerdict}
+use Rattle.pc_app.specs.Promises.{OfBytes, PrintedSuffices, PrintedIsExact, PrintedCertificate, PrintedRuling, PrintedAccepted, PrintedVerdict, PrintedProgram}
+use Rattle.pc_app.proofs.AnswerLemmas.{file_read, analysed, of_bytes, of_nothing}
 
 module _ (held : Holding) (bytes : Bytes) (status : ℕ) (text : Bytes) (old new : Option Bytes) (e : held ≡ Held bytes) (written : Appended old new text) where
   -- what was written, where it is told what the text is
   is_written : (other : Bytes) → text ≡ other → Appended old new other
   is_written other same = subst (λ (z : Bytes). Appended old new z) same written
 
-  pub infer_is_exact : status ≡ DONE → OnSource (AnalysisAnswers InferAnswers) held status text → PrintedIsExact bytes old new
+  pub infer_is_exact : status ≡ DONE → OnFile source_kind (AnalysisAnswers InferAnswers) held status text → PrintedIsExact bytes old new
   infer_is_exact done file =
-      let r = source_read held bytes status text e (AnalysisAnswers InferAnswers) (λ l. omega arith) (λ l. omega arith) file in
+      let r = file_read source_kind (AnalysisAnswers InferAnswers) held bytes status text e (λ l. omega arith) (λ l. omega arith) file in
       let a = analysed InferAnswers r.0 status text (λ l. omega arith) r.2 in
       record {
         suffices = record { program = r.0; spelled = r.1; condition = a.condition; small = a.inferred.small; printed = is_written _ a.text_is; safe = a.inferred.sound };
         needed = a.inferred.exact;
       }
 
-  pub certify_is_right : status ≡ DONE → OnSource (AnalysisAnswers CertifyAnswers) held status text → PrintedCertificate bytes old new
+  pub certify_is_right : status ≡ DONE → OnFile source_kind (AnalysisAnswers CertifyAnswers) held status text → PrintedCertificate bytes old new
   certify_is_right done file =
-      let r = source_read held bytes status text e (AnalysisAnswers CertifyAnswers) (λ l. omega arith) (λ l. omega arith) file in
+      let r = file_read source_kind (AnalysisAnswers CertifyAnswers) held bytes status text e (λ l. omega arith) (λ l. omega arith) file in
       let a = analysed CertifyAnswers r.0 status text (λ l. omega arith) r.2 in
       record {
         program = r.0;
@@ -48,17 +51,17 @@ module _ (held : Holding) (bytes : Bytes) (status : ℕ) (text : Bytes) (old new
         needed = a.inferred.exact;
       }
 
-  pub show_is_text : status ≡ DONE → OnSource ShowAnswers held status text → PrintedProgram bytes old new
+  pub show_is_text : status ≡ DONE → OnFile source_kind ShowAnswers held status text → PrintedProgram bytes old new
   show_is_text done file =
-      let r = source_read held bytes status text e ShowAnswers (λ l. omega arith) (λ l. omega arith) file in
+      let r = file_read source_kind ShowAnswers held bytes status text e (λ l. omega arith) (λ l. omega arith) file in
       record { program = r.0; spelled = r.1; printed = is_written _ r.2.text_is }
 
-  pub run_is_verdict : IsVerdict status → (script : Holding) → OnSource (OnRun script) held status text → OfBytes (λ of_script. PrintedVerdict bytes of_script status old new) script
+  pub run_is_verdict : IsVerdict status → (script : Holding) → OnFile source_kind (OnRun script) held status text → OfBytes (λ of_script. PrintedVerdict bytes of_script status old new) script
   run_is_verdict told script file =
-      let r = source_read held bytes status text e (OnRun script) (λ l. omega arith) (λ l. omega arith) file in
+      let r = file_read source_kind (OnRun script) held bytes status text e (λ l. omega arith) (λ l. omega arith) file in
       of_bytes (λ of_script. PrintedVerdict bytes of_script status old new) script
       (λ of_script e'.
-      let c = script_read script of_script status text e' r.0.names.params (RunAnswers r.0) (λ l. omega arith) (λ l. omega arith) r.2 in
+      let c = file_read (script_kind r.0.names.params) (RunAnswers r.0) script of_script status text e' (λ l. omega arith) (λ l. omega arith) r.2 in
       record {
         program = r.0;
         spelled = r.1;
@@ -69,14 +72,14 @@ module _ (held : Holding) (bytes : Bytes) (status : ℕ) (text : Bytes) (old new
         status_is = c.2.status_is;
         printed = is_written _ c.2.text_is;
       })
-      (λ e'. of_nothing _ _ _ script status text e' r.2)
+      (λ e'. of_nothing (script_kind r.0.names.params) _ script status text e' r.2)
 
-  pub replay_is_ruling : IsRuling status → (certificate : Holding) → OnSource (OnReplay certificate) held status text → OfBytes (λ of_certificate. PrintedRuling bytes of_certificate status old new) certificate
+  pub replay_is_ruling : IsRuling status → (certificate : Holding) → OnFile source_kind (OnReplay certificate) held status text → OfBytes (λ of_certificate. PrintedRuling bytes of_certificate status old new) certificate
   replay_is_ruling told certificate file =
-      let r = source_read held bytes status text e (OnReplay certificate) (λ l. omega arith) (λ l. omega arith) file in
+      let r = file_read source_kind (OnReplay certificate) held bytes status text e (λ l. omega arith) (λ l. omega arith) file in
       of_bytes (λ of_certificate. PrintedRuling bytes of_certificate status old new) certificate
       (λ of_certificate e'.
-      let c = certificate_read certificate of_certificate status text e' (ReplayAnswers r.0) (λ l. omega arith) (λ l. omega arith) r.2 in
+      let c = file_read certificate_kind (ReplayAnswers r.0) certificate of_certificate status text e' (λ l. omega arith) (λ l. omega arith) r.2 in
       record {
         program = r.0;
         spelled = r.1;
@@ -85,7 +88,7 @@ module _ (held : Holding) (bytes : Bytes) (status : ℕ) (text : Bytes) (old new
         status_is = c.2.status_is;
         printed = is_written _ c.2.text_is;
       })
-      (λ e'. of_nothing _ _ _ certificate status text e' r.2)
+      (λ e'. of_nothing certificate_kind _ certificate status text e' r.2)
 
 done_is_accepted : (r : Ruling) → DONE ≡ ruling_status r → r ≡ answer.Accepted
 done_is_accepted answer.Accepted e = refl

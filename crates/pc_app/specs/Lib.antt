@@ -4,8 +4,11 @@ pub mod Verdicts
 pub mod Rulings
 pub mod Inferred
 pub mod Analysed
+pub mod Files
+pub mod Kinds
 pub mod Answers
 pub mod Silences
+pub mod Causes
 pub mod Reading
 pub mod Promises
 pub mod Programs

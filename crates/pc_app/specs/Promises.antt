@@ -15,7 +15,7 @@ use Rattle.pc_replay.specs.Rule.{ruling}
 use Rattle.pc_runner.specs.Runs.{SaysOf}
 use Rattle.pc_runner.specs.Scripts.{Choosing, script_of}
 use Rattle.pc_runner.specs.declared.verdict.Verdict.{Verdict}
-use Rattle.pc_app.specs.declared.status.TheConstants.{DONE, FAILED, PAST, STORE_FAILED, SINK_FAILED, NO_MEMORY}
+use Rattle.pc_app.specs.declared.status.TheConstants.{STORE_FAILED, SINK_FAILED, NO_MEMORY}
 use Rattle.pc_app.specs.declared.limits.TheConstants.{CERTIFICATE_BYTES}
 use Rattle.pc_app.specs.Rulings.{ruling_status, ruling_text}
 use Rattle.pc_app.specs.Inferred.{IsCondition, Suffices, IsNeeded, IsTameAndStraight}
@@ -91,14 +91,6 @@ pub record PrintedVerdict (source script : Bytes) (status : ℕ) (old new : Opti
   pub says : SaysOf program choosing.entry choosing.choices verdict
   pub status_is : status ≡ verdict_status verdict
   pub printed : Appended old new (verdict_text program.names.names (length choosing.choices) verdict)
-
--- the status of a verdict
-abbrev pub IsVerdict : ℕ → Type 0
-IsVerdict status = (status ≡ DONE) ⊎ ((status ≡ FAILED) ⊎ (status ≡ PAST))
-
--- the status of a ruling
-abbrev pub IsRuling : ℕ → Type 0
-IsRuling status = (status ≡ DONE) ⊎ (status ≡ FAILED)
 
 -- a promise on the bytes that are held, where that is told
 abbrev pub OfBytes : (Bytes → Type 0) → Holding → Type 0

@@ -1,21 +1,30 @@
 -- Why words are not answered.
-use Rattle.std.specs.Prelude.{◌≡◌, ◌⊎◌, ℕ, List, [], ◌∷◌}
+use Rattle.std.specs.Prelude.{◌≡◌, ◌⊎◌, ℕ, List}
 use Rattle.pc_ports.specs.Outside.{Holding, Nothing, Rose}
 use Rattle.pc_text.specs.Bytes.{Bytes}
-use Rattle.pc_app.specs.Words.{Order, files_of, IsOrder}
+use Rattle.pc_program.specs.declared.program.Program.{Program}
+use Rattle.pc_app.specs.Files.{MayMean}
+use Rattle.pc_app.specs.Kinds.{source_kind}
+use Rattle.pc_app.specs.Words.{Order, Infer, Certify, Replay, Run, Show, IsOrder}
 
 -- the reading of a file failed, or the store tells that it lacks the file
 abbrev pub IsLost : Holding → ℕ → ℕ → Type 0
 IsLost held before now = Rose before now ⊎ (held ≡ Nothing)
 
--- the store tells that it lacks one of the files
-abbrev pub LacksSome : (Bytes → Holding) → List Bytes → Type 0
-LacksSome held [] = ⊥
-LacksSome held (name ∷ names) = (held name ≡ Nothing) ⊎ LacksSome held names
+-- a source may hold bytes, no more than its limit, that spell a program; and then a second file is lost
+pub record IsLostBehind (source other : Holding) (before now : ℕ) : Type 0 where
+  pub program : Program
+  pub spelled : MayMean source_kind source program
+  pub lost : IsLost other before now
 
--- the reading of a file of the order failed, or the store tells that it lacks one
+-- the files of an order are read one after the other, and one of them is lost: a second file counts only behind a source that
+-- is there, short enough and without a fault
 abbrev pub OrderIsLost : (Bytes → Holding) → ℕ → ℕ → Order → Type 0
-OrderIsLost held before now order = Rose before now ⊎ LacksSome held (files_of order)
+OrderIsLost held before now (Infer source) = IsLost (held source) before now
+OrderIsLost held before now (Certify source) = IsLost (held source) before now
+OrderIsLost held before now (Replay source certificate) = IsLost (held source) before now ⊎ IsLostBehind (held source) (held certificate) before now
+OrderIsLost held before now (Run source script) = IsLost (held source) before now ⊎ IsLostBehind (held source) (held script) before now
+OrderIsLost held before now (Show source) = IsLost (held source) before now
 
 -- the words name a file that is lost
 pub record LacksFile (words : List Bytes) (held : Bytes → Holding) (before now : ℕ) : Type 0 where

@@ -1,9 +1,10 @@
 //! The files that a command names: their bytes, and what these are.
 
 ghost use Rattle.std.specs.Prelude.{◌≡◌, ◌≤◌, ◌<◌, ℕ, List, IfOk, IfErr};
-ghost use Rattle.pc_app.specs.Answers.{FileAnswers};
+ghost use Rattle.pc_app.specs.Files.{HasBytes, IsTooLong};
+ghost use Rattle.pc_app.specs.Kinds.{source_kind, certificate_kind};
 ghost use Rattle.pc_app.specs.Silences.{IsLost};
-ghost use Rattle.pc_app.specs.Reading.{HasBytes, Nobody, Stops, SourceIs, ScriptIs, CertificateIs};
+ghost use Rattle.pc_app.specs.Reading.{Stops, FileIs, ScriptIs};
 
 use crate::answer::{Answer, Stop, one_line};
 use crate::limits::{CERTIFICATE_BYTES, SCRIPT_BYTES, SOURCE_BYTES};
@@ -13,8 +14,8 @@ use crate::status::{MALFORMED, REFUSED, TOO_LONG};
 use pc_cert::{CertFault, read_certificate};
 use pc_certificate::Certificate;
 use pc_ports::{FetchFault, Store};
-use pc_runner::{Script, ScriptFault, read_script};
 use pc_program::Program;
+use pc_runner::{Script, ScriptFault, read_script};
 use pc_syntax::{SourceFault, read};
 use std::alloc::Global;
 
@@ -28,7 +29,7 @@ fn bytes_in<S: Store>(
 ) -> Result<Vec<u8>, Stop>
     requires { limit < usize.MAX }
     ensures bytes { IfOk result (λ bytes. HasBytes limit (S.holding store.old name.now) bytes.items) }
-    ensures stops { IfErr result (λ e. Stops (FileAnswers limit long.now Nobody (S.holding store.old name.now)) (IsLost (S.holding store.old name.now) (S.faults store.old) (S.faults store.new)) e) }
+    ensures stops { IfErr result (λ e. Stops (IsTooLong limit long.now (S.holding store.old name.now)) (IsLost (S.holding store.old name.now) (S.faults store.old) (S.faults store.new)) e) }
     ensures counted { S.faults store.old ≤ S.faults store.new }
     ensures kept { (n : List ℕ) → S.holding store.new n ≡ S.holding store.old n }
 {
@@ -42,7 +43,7 @@ fn bytes_in<S: Store>(
 
 /// The program that a file spells.
 pub(crate) fn source_in<S: Store>(alloc: Global, name: &str, store: &mut S) -> Result<Program, Stop>
-    ensures answered { SourceIs (S.holding store.old name.now) (S.faults store.old) (S.faults store.new) result }
+    ensures answered { FileIs source_kind (S.holding store.old name.now) (S.faults store.old) (S.faults store.new) result }
     ensures counted { S.faults store.old ≤ S.faults store.new }
     ensures kept { (n : List ℕ) → S.holding store.new n ≡ S.holding store.old n }
 {
@@ -85,7 +86,7 @@ pub(crate) fn certificate_in<S: Store>(
     name: &str,
     store: &mut S,
 ) -> Result<Certificate, Stop>
-    ensures answered { CertificateIs (S.holding store.old name.now) (S.faults store.old) (S.faults store.new) result }
+    ensures answered { FileIs certificate_kind (S.holding store.old name.now) (S.faults store.old) (S.faults store.new) result }
     ensures counted { S.faults store.old ≤ S.faults store.new }
     ensures kept { (n : List ℕ) → S.holding store.new n ≡ S.holding store.old n }
 {

@@ -15,8 +15,8 @@ use crate::answer::{Answer, Stop};
 use crate::files::source_in;
 use crate::refusal::refusal_at;
 use crate::status::{DONE, REFUSED};
-use pc_certificate::Certificate;
 use pc_cert::{show_certificate, show_condition};
+use pc_certificate::Certificate;
 use pc_certify::infer;
 use pc_graph::lower;
 use pc_ports::Store;
@@ -89,7 +89,7 @@ fn certificate_of(alloc: Global, program: &Program) -> Result<Certificate, NoMem
     let graph = lower(alloc, program)?;
     match infer(alloc, &graph) {
         Ok(certificate) => Ok(certificate),
-        Err(_) => Err(NoMemory),
+        Err(pc_rows::NoMemory) => Err(NoMemory),
     }
 }
 

@@ -1,6 +1,7 @@
 //! What the words `replay` are answered: rulings on certificates.
 
 ghost use Rattle.std.specs.Prelude.{◌≡◌, ◌≤◌, ℕ, List, IfOk};
+ghost use Rattle.pc_graph.specs.Lowering.{graph};
 ghost use Rattle.pc_app.specs.Answers.{OnReplay, ReplayAnswers};
 ghost use Rattle.pc_app.specs.Reading.{OrderIs, WithFile};
 ghost use Rattle.pc_app.specs.Words.{Replay};
@@ -9,10 +10,11 @@ use crate::answer::{Answer, Stop};
 use crate::files::{certificate_in, source_in};
 use crate::ruling::answer_of_ruling;
 use pc_certificate::Certificate;
+use pc_flow::Graph;
 use pc_graph::lower;
 use pc_ports::Store;
-use pc_replay::accept;
 use pc_program::Program;
+use pc_replay::accept;
 use pc_text::NoMemory;
 use std::alloc::Global;
 
@@ -27,29 +29,38 @@ pub(crate) fn answer_to_replay<S: Store>(
     ensures kept { (name : List ℕ) → S.holding store.new name ≡ S.holding store.old name }
 {
     let program = source_in(alloc, source, store)?;
-    replay_program(alloc, &program, certificate, store)
+    let graph = lower(alloc, &program)?;
+    replay_program(alloc, &program, &graph, certificate, store)
 }
 
-/// The answer to `replay` on a program.
+/// The answer to `replay` on a program with its graph, which is there before the certificate is
+/// fetched.
 fn replay_program<S: Store>(
     alloc: Global,
     program: &Program,
+    g: &Graph,
     certificate: &str,
     store: &mut S,
 ) -> Result<Answer, Stop>
+    requires { g.now ≡ graph program.now }
     ensures answered { WithFile (OnReplay (S.holding store.old certificate.now) program.now) (S.holding store.old certificate.now) (S.faults store.old) (S.faults store.new) result }
     ensures counted { S.faults store.old ≤ S.faults store.new }
     ensures kept { (name : List ℕ) → S.holding store.new name ≡ S.holding store.old name }
 {
     let certificate = certificate_in(alloc, certificate, store)?;
-    Ok(ruled(alloc, program, &certificate)?)
+    Ok(ruled(alloc, program, g, &certificate)?)
 }
 
-/// The answer to a certificate for a program.
-fn ruled(alloc: Global, program: &Program, certificate: &Certificate) -> Result<Answer, NoMemory>
+/// The answer to a certificate for a program with its graph.
+fn ruled(
+    alloc: Global,
+    program: &Program,
+    g: &Graph,
+    certificate: &Certificate,
+) -> Result<Answer, NoMemory>
+    requires { g.now ≡ graph program.now }
     ensures { IfOk result (λ a. ReplayAnswers program.now certificate.now a.status a.text) }
 {
-    let graph = lower(alloc, program)?;
-    let ruling = accept(&graph, certificate);
+    let ruling = accept(g, certificate);
     answer_of_ruling(alloc, certificate, &program.names, ruling)
 }

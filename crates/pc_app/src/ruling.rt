@@ -7,8 +7,8 @@ ghost use Rattle.pc_app.specs.Rulings.{numbered, at_edge, at_row, refusal_text, 
 
 use crate::answer::Answer;
 use crate::status::{DONE, FAILED};
-use pc_certificate::Certificate;
 use pc_cert::show_condition;
+use pc_certificate::Certificate;
 use pc_replay::Ruling;
 use pc_text::{Names, NoMemory, Text};
 use std::alloc::Global;

@@ -9,8 +9,8 @@ use crate::answer::{Answer, Stop};
 use crate::files::{script_in, source_in};
 use crate::verdict::answer_of_verdict;
 use pc_ports::Store;
-use pc_runner::run;
 use pc_program::Program;
+use pc_runner::run;
 use std::alloc::Global;
 
 /// The answer to `run`.

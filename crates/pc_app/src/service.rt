@@ -1,15 +1,16 @@
 //! The top call.
 
-ghost use Rattle.std.specs.Prelude.{◌≡◌, ◌≤◌, ◌<◌, ◌↔◌, ◌⊎◌, ℕ, List, map, string_bytes, length};
-ghost use Rattle.pc_ports.specs.Outside.{Held, Rose};
-ghost use Rattle.pc_app.specs.Analysed.{IsAnalysed};
+ghost use Rattle.std.specs.Prelude.{◌≡◌, ◌↔◌, ◌⊎◌, ℕ, List, map, string_bytes};
+ghost use Rattle.pc_ports.specs.Outside.{Rose};
 ghost use Rattle.pc_app.specs.Words.{Order, IsOrder, IsInfer, IsCertify, IsReplay, IsRun, IsShow, IsPlain, files_of};
 ghost use Rattle.pc_app.specs.Silences.{LacksFile};
-ghost use Rattle.pc_app.specs.Promises.{OfBytes, PrintedSuffices, PrintedIsExact, PrintedCertificate, PrintedRuling, PrintedAccepted, PrintedVerdict, PrintedProgram, IsRuling, IsVerdict, AreThere, IsOnlyStatus, IsWritten, IsAnswered, HasAnswered, IsCutOff, Ends};
+ghost use Rattle.pc_app.specs.Causes.{IsRuling, IsVerdict, OrderIsTooLong, OrderIsRefused, OrderIsMalformed, OrderIsMeant, IsOutcome};
+ghost use Rattle.pc_app.specs.Promises.{OfBytes, PrintedSuffices, PrintedIsExact, PrintedCertificate, PrintedRuling, PrintedAccepted, PrintedVerdict, PrintedProgram, AreTold, AreThere, IsOnlyStatus, IsWritten, IsAnswered, HasAnswered, IsCutOff, Ends};
 
 use crate::answer::{Answer, Stop, answer_to_words};
-use crate::limits::SOURCE_BYTES;
-use crate::status::{DONE, NO_MEMORY, REFUSED, SINK_FAILED, STORE_FAILED, TOO_LONG, USAGE};
+use crate::status::{
+    DONE, MALFORMED, NO_MEMORY, REFUSED, SINK_FAILED, STORE_FAILED, TOO_LONG, USAGE,
+};
 use pc_ports::{Sink, Store, WriteFault, put_all};
 use std::alloc::Global;
 
@@ -74,15 +75,21 @@ pub fn serve<S: Store, K: Sink>(alloc: Global, words: &[String], store: &mut S, 
     // Usage exactly for words in no plain form.
     ensures usage { IsAnswered result → (result ≡ USAGE) ↔ (IsPlain (map string_bytes words.now) → ⊥) }
 
-    // Too long exactly where more bytes are held than the limit.
-    ensures too_long { (name bytes : List ℕ) → IsInfer (map string_bytes words.now) name → S.holding store.old name ≡ Held bytes →
-        IsAnswered result → (result ≡ TOO_LONG) ↔ (SOURCE_BYTES < length bytes) }
+    // Where the files are told. Too long exactly where more bytes than its limit are held under a name:
+    // that of the source, or the other behind a source that is read.
+    ensures too_long { (order : Order) → IsOrder (map string_bytes words.now) order → AreTold (S.holding store.old) (files_of order) →
+        IsAnswered result → (result ≡ TOO_LONG) ↔ OrderIsTooLong (S.holding store.old) order }
 
-    // Refused exactly where the bytes spell no program that is analysed.
-    ensures refused { (name bytes : List ℕ) → IsInfer (map string_bytes words.now) name → S.holding store.old name ≡ Held bytes →
-        IsAnswered result → length bytes ≤ SOURCE_BYTES → (result ≡ REFUSED) ↔ (IsAnalysed bytes → ⊥) }
+    // Refused exactly where the bytes of the source spell no program, or none that is analysed where that is ordered.
+    ensures refused { (order : Order) → IsOrder (map string_bytes words.now) order → AreTold (S.holding store.old) (files_of order) →
+        IsAnswered result → (result ≡ REFUSED) ↔ OrderIsRefused (S.holding store.old) order }
 
-    // The faults outside have their causes. Without memory, and without the file, nothing is written.
+    // Malformed exactly where a source is read, and the certificate or the script behind it is none.
+    ensures malformed { (order : Order) → IsOrder (map string_bytes words.now) order → AreTold (S.holding store.old) (files_of order) →
+        IsAnswered result → (result ≡ MALFORMED) ↔ OrderIsMalformed (S.holding store.old) order }
+
+    // The faults outside have their causes; a second file is lost only behind a source that may be read.
+    // Without memory, and without a file, nothing is written.
     ensures store { result ≡ STORE_FAILED →
         LacksFile (map string_bytes words.now) (S.holding store.old) (S.faults store.old) (S.faults store.new) }
     ensures sink { result ≡ SINK_FAILED →
@@ -94,12 +101,12 @@ pub fn serve<S: Store, K: Sink>(alloc: Global, words: &[String], store: &mut S, 
         (Rose (S.faults store.old) (S.faults store.new) → ⊥) → (Rose (K.faults out.old) (K.faults out.new) → ⊥) →
         IsAnswered result ⊎ (result ≡ NO_MEMORY) }
 
-    // Where nothing outside fails, a source that is held, short enough and analysed is done, but
-    // for want of memory.
-    ensures complete { (name bytes : List ℕ) → IsInfer (map string_bytes words.now) name → S.holding store.old name ≡ Held bytes →
-        length bytes ≤ SOURCE_BYTES → IsAnalysed bytes →
+    // Where nothing outside fails, files that are held, short enough and what they are to be come to the
+    // order's end, but for want of memory.
+    ensures complete { (order : Order) → IsOrder (map string_bytes words.now) order → AreTold (S.holding store.old) (files_of order) →
+        OrderIsMeant (S.holding store.old) order →
         (Rose (S.faults store.old) (S.faults store.new) → ⊥) → (Rose (K.faults out.old) (K.faults out.new) → ⊥) →
-        (result ≡ DONE) ⊎ (result ≡ NO_MEMORY) }
+        IsOutcome order result ⊎ (result ≡ NO_MEMORY) }
 
     // The store holds what it held.
     ensures kept { (name : List ℕ) → S.holding store.new name ≡ S.holding store.old name }

@@ -30,3 +30,9 @@ pub const TOO_LONG: u8 = 8;
 
 /// The run needs a value that is not in range; the verdict was written.
 pub const PAST: u8 = 9;
+
+const _: () = prove!(DONE == 0 && FAILED == 1 && USAGE == 2 && REFUSED == 3 && MALFORMED == 4);
+
+const _: () = prove!(
+    STORE_FAILED == 5 && SINK_FAILED == 6 && NO_MEMORY == 7 && TOO_LONG == 8 && PAST == 9
+);

@@ -1,9 +1,9 @@
 //! Blocks: a title, the words of a call, the texts that it is about, and what it prints.
 
 use crate::call::{Call, Outcome};
+use crate::fault::Fault;
 use crate::files::bytes_of;
 use crate::text::{Text, parted};
-use anyhow::{Context, Result, bail};
 use pc_ports::Store;
 use std::alloc::Global;
 use std::mem;
@@ -44,7 +44,7 @@ pub struct Block {
 
 impl Block {
     /// The block that the title on this line begins.
-    pub fn new(alloc: Global, line: usize, title: &str) -> Result<Block> {
+    pub fn new(alloc: Global, line: usize, title: &str) -> Result<Block, Fault> {
         Ok(Block {
             title: String::from_str(alloc, title)?,
             line,
@@ -56,54 +56,65 @@ impl Block {
 
     /// Takes the next line: the words of the call, a directive, or a line of the text that was
     /// begun last.
-    pub fn take<S: Store>(&mut self, alloc: Global, store: &mut S, line: &str) -> Result<()> {
-        if let Some(words) = line.strip_prefix('$') {
-            return self.call.say(alloc, words);
+    pub fn take<S: Store>(
+        &mut self,
+        alloc: Global,
+        store: &mut S,
+        line: &str,
+    ) -> Result<(), Fault> {
+        if let Some(words) = line.strip_prefix("$") {
+            self.call.say(alloc, words)
+        } else if let Some(directive) = line.strip_prefix("-- ") {
+            self.follow(alloc, store, directive)
+        } else if let Role::Missing = self.role {
+            Err(Fault::Textless)
+        } else {
+            self.text.push_line(line)
         }
-        if let Some(directive) = line.strip_prefix("-- ") {
-            return self.follow(alloc, store, directive);
-        }
-        self.ensure_begun()?;
-        self.text.push_line(line)
     }
 
     /// Follows a directive.
-    fn follow<S: Store>(&mut self, alloc: Global, store: &mut S, directive: &str) -> Result<()> {
+    fn follow<S: Store>(
+        &mut self,
+        alloc: Global,
+        store: &mut S,
+        directive: &str,
+    ) -> Result<(), Fault> {
+        let (head, base) = parted(directive, " is ");
+        if let Some(role) = role_of(alloc, head)? {
+            self.begin(alloc, role)?;
+            return self.copy(alloc, store, base);
+        }
         if self.call.set(directive)? {
             return Ok(());
         }
-        let (head, base) = parted(directive, " is ");
-        let Some(role) = role_of(alloc, head)? else {
-            self.ensure_begun()?;
-            return self.text.change(alloc, directive);
-        };
-        self.begin(alloc, role)?;
-        match base {
-            Some(base) => self.copy(alloc, store, base),
-            None => Ok(()),
+        if let Role::Missing = self.role {
+            return Err(Fault::Textless);
         }
-    }
-
-    /// Fails where there is no text yet.
-    fn ensure_begun(&self) -> Result<()> {
-        match self.role {
-            Role::Missing => bail!("no text was begun"),
-            _ => Ok(()),
-        }
+        self.text.change(alloc, directive)
     }
 
     /// Puts the text away and begins another one.
-    fn begin(&mut self, alloc: Global, role: Role) -> Result<()> {
+    fn begin(&mut self, alloc: Global, role: Role) -> Result<(), Fault> {
         let text = mem::replace(&mut self.text, Text::new(alloc));
         match mem::replace(&mut self.role, role) {
             Role::Missing => Ok(()),
             Role::File(name) => self.call.hold(name, text),
-            Role::Output(_) => bail!("what is printed comes last"),
+            Role::Output(_) => Err(Fault::Unprinted),
         }
     }
 
-    /// Copies a file of data into the text, and changes it where a change stands after a comma.
-    fn copy<S: Store>(&mut self, alloc: Global, store: &mut S, base: &str) -> Result<()> {
+    /// Copies a file of data into the text where one is named, and changes it where a change stands
+    /// after a comma.
+    fn copy<S: Store>(
+        &mut self,
+        alloc: Global,
+        store: &mut S,
+        base: Option<&str>,
+    ) -> Result<(), Fault> {
+        let Some(base) = base else {
+            return Ok(());
+        };
         let (name, change) = parted(base, ", ");
         self.text.push(bytes_of(alloc, store, name)?.as_slice())?;
         match change {
@@ -113,9 +124,9 @@ impl Block {
     }
 
     /// The case, once all lines were taken.
-    pub fn into_case(self) -> Result<Case> {
+    pub fn into_case(self) -> Result<Case, Fault> {
         let Role::Output(status) = self.role else {
-            bail!("the block has no line `-- prints`");
+            return Err(Fault::Unprinted);
         };
         Ok(Case {
             title: self.title,
@@ -130,12 +141,10 @@ impl Block {
 }
 
 /// What the text is that the head of a directive begins, where it begins one.
-fn role_of(alloc: Global, head: &str) -> Result<Option<Role>> {
-    if let Some(status) = head.strip_prefix("prints ") {
-        return Ok(Some(Role::Output(status.parse()?)));
+fn role_of(alloc: Global, head: &str) -> Result<Option<Role>, Fault> {
+    match parted(head, " ") {
+        ("prints", Some(status)) => Ok(Some(Role::Output(status.parse()?))),
+        (_, Some(_)) => Ok(None),
+        (name, None) => Ok(Some(Role::File(String::from_str(alloc, name)?))),
     }
-    if head.is_empty() || head.contains(' ') {
-        return Ok(None);
-    }
-    Ok(Some(Role::File(String::from_str(alloc, head)?)))
 }

@@ -1,7 +1,7 @@
 //! Calls over memory.
 
+use crate::fault::Fault;
 use crate::text::Text;
-use anyhow::{Context, Result, ensure};
 use pc_app::serve;
 use pc_ports::{Calls, Files, MemorySink, MemoryStore};
 use std::alloc::Global;
@@ -10,7 +10,7 @@ use std::alloc::Global;
 const ROOM: usize = 65_536;
 
 /// What comes of a call.
-#[derive(Drop, PartialEq, Eq)]
+#[derive(Drop)]
 pub struct Outcome {
     /// The status that it ends with.
     pub status: u8,
@@ -43,8 +43,10 @@ impl Call {
     }
 
     /// Tells the words, parted by spaces; two quotation marks are the empty word.
-    pub fn say(&mut self, alloc: Global, line: &str) -> Result<()> {
-        ensure!(self.words.is_none(), "the words were told before");
+    pub fn say(&mut self, alloc: Global, line: &str) -> Result<(), Fault> {
+        if self.words.is_some() {
+            return Err(Fault::Words);
+        }
         let mut words = Vec::new(alloc);
         for word in line.split_whitespace() {
             let word = if word == "\"\"" { "" } else { word };
@@ -55,19 +57,16 @@ impl Call {
     }
 
     /// Puts a file into the store.
-    pub fn hold(&mut self, name: String, text: Text) -> Result<()> {
-        self.files
-            .push((name, text.into_bytes()))
-            .ok()
-            .context("no memory")
+    pub fn hold(&mut self, name: String, text: Text) -> Result<(), Fault> {
+        Ok(self.files.push((name, text.into_bytes()))?)
     }
 
     /// Follows a directive on the store or the sink, and says whether it was one.
-    pub fn set(&mut self, directive: &str) -> Result<bool> {
+    pub fn set(&mut self, directive: &str) -> Result<bool, Fault> {
         if let Some(number) = directive.strip_prefix("store fails at ") {
-            push_number(&mut self.failing_reads, number)?;
+            self.failing_reads.push(number.parse()?)?;
         } else if let Some(number) = directive.strip_prefix("sink fails at ") {
-            push_number(&mut self.failing_writes, number)?;
+            self.failing_writes.push(number.parse()?)?;
         } else if let Some(most) = directive.strip_prefix("sink takes ") {
             self.most = most.parse()?;
         } else if let Some(room) = directive.strip_prefix("sink has room for ") {
@@ -79,22 +78,17 @@ impl Call {
     }
 
     /// Makes the call.
-    pub fn outcome(self, alloc: Global) -> Result<Outcome> {
-        let words = self.words.context("the block has no line `$`")?;
-        ensure!(self.most > 0, "a sink takes at least one byte");
+    pub fn outcome(self, alloc: Global) -> Result<Outcome, Fault> {
+        let Some(words) = self.words else {
+            return Err(Fault::Words);
+        };
+        if self.most == 0 {
+            return Err(Fault::Number);
+        }
         let mut store = MemoryStore::new(self.files, self.failing_reads);
-        let mut sink = MemorySink::new(alloc, self.room, self.most, self.failing_writes)
-            .ok()
-            .context("no memory")?;
+        let mut sink = MemorySink::new(alloc, self.room, self.most, self.failing_writes)?;
         let status = serve(alloc, words.as_slice(), &mut store, &mut sink);
-        Ok(Outcome {
-            status,
-            text: Vec::from_slice(alloc, sink.written())?,
-        })
+        let text = Vec::from_slice(alloc, sink.written())?;
+        Ok(Outcome { status, text })
     }
-}
-
-/// Adds a number of a call that is to fail.
-fn push_number(calls: &mut Calls, number: &str) -> Result<()> {
-    calls.push(number.parse()?).ok().context("no memory")
 }

@@ -1,60 +1,84 @@
-//! Files of cases: blocks that are parted by blank lines.
+//! Files of cases: blocks that end with empty lines.
 
 use crate::block::{Block, Case};
-use crate::files::text_of;
-use anyhow::{Context, Result, bail, ensure};
+use crate::fault::Fault;
 use pc_ports::Store;
 use std::alloc::Global;
 
-/// The cases of a file, in order.
-pub fn cases_of<S: Store>(alloc: Global, store: &mut S, name: &str) -> Result<Vec<Case>> {
-    let text = text_of(alloc, store, name)?;
-    let mut reader = Reader {
-        cases: Vec::new(alloc),
-        open: None,
-    };
-    for (above, line) in text.as_str().split('\n').enumerate() {
-        reader
-            .take(alloc, store, above + 1, line)
-            .context(format_args!("{name}:{}", above + 1))?;
-    }
-    ensure!(reader.open.is_none(), "{name} ends within a line");
-    Ok(reader.cases)
+/// Where a text is not understood, and why.
+#[derive(Clone, Copy)]
+pub struct Misread {
+    /// The line, counted from 1.
+    pub line: usize,
+    /// The reason.
+    pub fault: Fault,
 }
 
-/// The cases so far, and the block that the last line is in.
+/// The cases of a text, in order. The store is where texts of blocks are copied from.
+pub fn cases_of<S: Store>(alloc: Global, store: &mut S, text: &str) -> Result<Vec<Case>, Misread> {
+    let mut reader = Reader::new(alloc);
+    for line in text.split('\n') {
+        if let Err(fault) = reader.take(alloc, store, line) {
+            return Err(Misread {
+                line: reader.line,
+                fault,
+            });
+        }
+    }
+    reader.into_cases()
+}
+
+/// A text of which some lines were read.
 #[derive(Drop)]
 struct Reader {
+    line: usize,
     cases: Vec<Case>,
     open: Option<Block>,
 }
 
 impl Reader {
-    /// Takes the line of this number, counted from 1.
-    fn take<S: Store>(
-        &mut self,
-        alloc: Global,
-        store: &mut S,
-        number: usize,
-        line: &str,
-    ) -> Result<()> {
+    /// No line was read.
+    fn new(alloc: Global) -> Reader {
+        Reader {
+            line: 0,
+            cases: Vec::new(alloc),
+            open: None,
+        }
+    }
+
+    /// Takes the next line.
+    fn take<S: Store>(&mut self, alloc: Global, store: &mut S, line: &str) -> Result<(), Fault> {
+        self.line = self.line.saturating_add(1);
         match self.open.take() {
-            Some(block) if line.is_empty() => self.cases.push(block.into_case()?)?,
+            None => self.open = begun(alloc, self.line, line)?,
+            Some(block) if line == "" => self.cases.push(block.into_case()?)?,
             Some(mut block) => {
                 block.take(alloc, store, line)?;
                 self.open = Some(block);
             }
-            None => self.open = begun(alloc, number, line)?,
         }
         Ok(())
+    }
+
+    /// The cases, once all lines were taken.
+    fn into_cases(self) -> Result<Vec<Case>, Misread> {
+        match self.open {
+            None => Ok(self.cases),
+            Some(_) => Err(Misread {
+                line: self.line,
+                fault: Fault::Unended,
+            }),
+        }
     }
 }
 
 /// The block that a line outside of blocks begins.
-fn begun(alloc: Global, number: usize, line: &str) -> Result<Option<Block>> {
-    match line.strip_prefix("== ") {
-        Some(title) => Ok(Some(Block::new(alloc, number, title)?)),
-        None if line.is_empty() || line.starts_with('#') => Ok(None),
-        None => bail!("a line outside of blocks"),
+fn begun(alloc: Global, number: usize, line: &str) -> Result<Option<Block>, Fault> {
+    if let Some(title) = line.strip_prefix("== ") {
+        return Ok(Some(Block::new(alloc, number, title)?));
     }
+    if line == "" || line.starts_with("#") {
+        return Ok(None);
+    }
+    Err(Fault::Outside)
 }

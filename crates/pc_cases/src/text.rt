@@ -1,6 +1,6 @@
 //! Texts that are told line by line, and changed.
 
-use anyhow::{Result, bail, ensure};
+use crate::fault::Fault;
 use std::alloc::Global;
 
 /// A text.
@@ -23,53 +23,59 @@ impl Text {
     }
 
     /// Adds bytes at the end.
-    pub fn push(&mut self, bytes: &[u8]) -> Result<()> {
+    pub fn push(&mut self, bytes: &[u8]) -> Result<(), Fault> {
         Ok(self.bytes.extend_from_slice(bytes)?)
     }
 
     /// Adds a line at the end.
-    pub fn push_line(&mut self, line: &str) -> Result<()> {
+    pub fn push_line(&mut self, line: &str) -> Result<(), Fault> {
         self.push(line.as_bytes())?;
-        self.push(b"\n")
+        Ok(self.bytes.push(b'\n')?)
     }
 
     /// Makes a change that a directive tells.
-    pub fn change(&mut self, alloc: Global, change: &str) -> Result<()> {
+    pub fn change(&mut self, alloc: Global, change: &str) -> Result<(), Fault> {
         if change == "without the last line feed" {
-            ensure!(self.bytes.pop() == Some(b'\n'), "there is no line feed");
-            return Ok(());
-        }
-        if let Some(bytes) = change.strip_prefix("bytes ") {
-            return self.push_bytes(bytes);
-        }
-        if let Some(len) = change.strip_prefix("padded to ") {
-            return self.pad(len.parse()?);
-        }
-        if let Some(edit) = change.strip_prefix("line ") {
-            return self.edit(alloc, edit);
-        }
-        match change.split_once(" times: ") {
-            Some((count, line)) => self.push_times(count.parse()?, line),
-            None => bail!("unknown directive: {change}"),
+            self.pop_line_feed()
+        } else if let Some(bytes) = change.strip_prefix("bytes ") {
+            self.push_bytes(bytes)
+        } else if let Some(len) = change.strip_prefix("padded to ") {
+            self.pad(len.parse()?)
+        } else if let Some(edit) = change.strip_prefix("line ") {
+            self.edit(alloc, edit)
+        } else if let (count, Some(line)) = parted(change, " times: ") {
+            self.push_times(count.parse()?, line)
+        } else {
+            Err(Fault::Directive)
         }
     }
 
-    /// Adds spaces at the end, up to so many bytes.
-    fn pad(&mut self, len: usize) -> Result<()> {
-        ensure!(self.bytes.len() <= len, "the text is longer than that");
-        Ok(self.bytes.resize(len, b' ')?)
+    /// Takes the line feed away that the text ends with.
+    fn pop_line_feed(&mut self) -> Result<(), Fault> {
+        match self.bytes.pop() {
+            Some(b'\n') => Ok(()),
+            _ => Err(Fault::Change),
+        }
     }
 
     /// Adds bytes, told in hexadecimal and parted by spaces.
-    fn push_bytes(&mut self, bytes: &str) -> Result<()> {
-        for byte in bytes.split_whitespace() {
-            self.push(&[u8::from_str_radix(byte, 16)?])?;
+    fn push_bytes(&mut self, bytes: &str) -> Result<(), Fault> {
+        for byte in bytes.split(' ') {
+            self.bytes.push(u8::from_str_radix(byte, 16)?)?;
         }
         Ok(())
     }
 
+    /// Adds spaces at the end, up to so many bytes.
+    fn pad(&mut self, len: usize) -> Result<(), Fault> {
+        if len < self.bytes.len() {
+            return Err(Fault::Change);
+        }
+        Ok(self.bytes.resize(len, b' ')?)
+    }
+
     /// Adds the same line so many times.
-    fn push_times(&mut self, count: u32, line: &str) -> Result<()> {
+    fn push_times(&mut self, count: usize, line: &str) -> Result<(), Fault> {
         for _ in 0..count {
             self.push_line(line)?;
         }
@@ -77,7 +83,7 @@ impl Text {
     }
 
     /// Changes the line whose number comes first.
-    fn edit(&mut self, alloc: Global, edit: &str) -> Result<()> {
+    fn edit(&mut self, alloc: Global, edit: &str) -> Result<(), Fault> {
         let (place, line) = parted(edit, ": ");
         let (number, how) = parted(place, " ");
         let number = number.parse()?;
@@ -85,7 +91,7 @@ impl Text {
             (None, Some(line)) => self.rewrite(alloc, number, false, Some(line)),
             (Some("followed by"), Some(line)) => self.rewrite(alloc, number, true, Some(line)),
             (Some("left out"), None) => self.rewrite(alloc, number, false, None),
-            _ => bail!("unknown change of a line: {edit}"),
+            _ => Err(Fault::Directive),
         }
     }
 
@@ -96,26 +102,25 @@ impl Text {
         number: usize,
         stays: bool,
         other: Option<&str>,
-    ) -> Result<()> {
+    ) -> Result<(), Fault> {
         let mut changed = Text::new(alloc);
-        let mut met = false;
-        for (above, line) in self
-            .bytes
-            .split_inclusive(|byte| *byte == b'\n')
-            .enumerate()
-        {
-            let here = above + 1 == number;
-            if stays || !here {
-                changed.push(line)?;
+        let mut line: usize = 1;
+        for byte in self.bytes.as_slice() {
+            if stays || line != number {
+                changed.bytes.push(*byte)?;
             }
-            if here {
-                met = true;
-                if let Some(other) = other {
+            if *byte == b'\n' {
+                if line == number
+                    && let Some(other) = other
+                {
                     changed.push_line(other)?;
                 }
+                line = line.saturating_add(1);
             }
         }
-        ensure!(met, "there is no line {number}");
+        if line <= number {
+            return Err(Fault::Change);
+        }
         *self = changed;
         Ok(())
     }

@@ -106,14 +106,6 @@ module _ (names : List Bytes) (cs : List ℤ) (v : ℕ) (is_first : Bool) (old n
             ∙ ap (λ z. old ++ sum_text z) (sym grow);
       }
 
-pub terms_end :
-    (names : List Bytes) (cs : List ℤ) (is_first : Bool) (old new : Bytes) →
-    HoldsTerms names cs VARIABLES is_first old new →
-    (is_first ≡ is_empty (terms names cs)) × (new ≡ old ++ sum_text (terms names cs))
-terms_end names cs is_first old new h =
-    let whole = take_all VARIABLES cs (omega (arith, h.wide (omega arith))) in
-    (h.first ∙ ap (λ z. is_empty (terms names z)) whole, h.text ∙ ap (λ z. old ++ sum_text (terms names z)) whole)
-
 named_by :
     (n : ℕ) (r : Linear) (v : ℕ) → IsOver n r → is_zero (coefficient r v) ≡ false → (v < n) ⊎ (n ≤ v) →
     v < n

@@ -24,10 +24,6 @@ use Rattle.pc_cert.proofs.Spelled.{IsSpelled}
 
 -- ---- counts
 
--- the numbers of words
-naturals : Words → List ℕ
-naturals ws = map natural_of ws
-
 counts_back : (n : ℕ) (ws : Words) → are_counts n ws ≡ true → (map (λ k. numeral (pos k)) (map natural_of ws) ≡ ws) × (length ws ≡ n)
 counts_back zero ws h = let none = empty_is ws h in (rw none refl, ap length none)
 counts_back (suc n) [] h = absurd (cc)
@@ -124,9 +120,6 @@ edge_spelled e = record {
 }
 
 -- ---- the version and the sizes
-
-name_plain : (w : Bytes) → IsPlain w → ArePlain (w ∷ [])
-name_plain w h = ((h, tt), refl)
 
 pub precond_plain : IsPlain (codes "precond")
 precond_plain = (omega arith, (omega arith, (omega arith, (omega arith, (omega arith, (omega arith, (omega arith, tt)))))))

@@ -34,12 +34,6 @@ row_more k i n r z old new h e =
     let next : next_number (k - (i + 1)) n old ≡ Ok (z, new) = ap (λ b. next_number b n old) (sym behind) ∙ e in
     sym (ap (λ m. row_from n i m r old) (one_less k i h) ∙ ap (λ x. x >>= (λ y. row_from n (i + 1) (k - (i + 1)) (with_coefficient r i y.0) y.1)) next)
 
-pub row_fault : (k i n : ℕ) (r : Linear) (f : CertFault) (old : Words) → i < k → next_number (k - i - 1) n old ≡ Err f → row_from n i (k - i) r old ≡ Err f
-row_fault k i n r f old h e =
-    let behind : k - i - 1 ≡ k - (i + 1) = omega arith in
-    let next : next_number (k - (i + 1)) n old ≡ Err f = ap (λ b. next_number b n old) (sym behind) ∙ e in
-    ap (λ m. row_from n i m r old) (one_less k i h) ∙ ap (λ x. x >>= (λ y. row_from n (i + 1) (k - (i + 1)) (with_coefficient r i y.0) y.1)) next
-
 -- ---- parts
 
 below_capped : (least n : ℕ) → (leb least (min n (2 ^ 32 - 1)) && ltb (min n (2 ^ 32 - 1)) PREMISES) ≡ (leb least n && ltb n PREMISES)

@@ -76,13 +76,10 @@ pub gives_of : (b : Bytes) (s : Unread) (r : Result Certificate CertFault) → s
 unfolding certificate_of
 gives_of b s r e g = subst (λ u. Gives (certificate_reader u) r) e g
 
-means_by : (b : Bytes) (r : Result Certificate CertFault) → Gives (certificate_of b) r → Means b r
-means_by b (Ok c) g = read_is b c g
-means_by b (Err e) g = unless_then e (certificate_of b ≡ Err e) (fault_of b ≡ Some e) (λ h. fault_is b ∙ ap fault_in_answer h) g
-
 -- an answer that gives the certificate of the text is right
 pub means : (b : Bytes) (r : Result Certificate CertFault) → Gives (certificate_of b) r → Means b r
-means b r g = means_by b r g
+means b (Ok c) g = read_is b c g
+means b (Err e) g = unless_then e (certificate_of b ≡ Err e) (fault_of b ≡ Some e) (λ h. fault_is b ∙ ap fault_in_answer h) g
 
 -- and it gives the certificate whose text this is
 pub only : (b : Bytes) (r : Result Certificate CertFault) → Gives (certificate_of b) r → (c : Certificate) → IsTextOf b c → Gives (Ok c) r

@@ -32,11 +32,3 @@ module _ {A : Type 0} (r : ℕ → Reader A) (k i : ℕ) (found : List A) (s : U
 behind_none : {A : Type 0} (r : Result (List A × Unread) CertFault) → behind [] r ≡ r
 behind_none (Ok x) = refl
 behind_none (Err e) = refl
-
--- before the first turn
-pub turns_begin : {A : Type 0} (r : ℕ → Reader A) (k : ℕ) (s : Unread) → behind [] (repeated r 0 (k - 0) s) ≡ repeated r 0 k s
-turns_begin r k s = let all : k - 0 ≡ k = omega arith in ap (λ n. behind [] (repeated r 0 n s)) all ∙ behind_none (repeated r 0 k s)
-
--- behind the last turn
-pub turns_end : {A : Type 0} (r : ℕ → Reader A) (k i : ℕ) (found : List A) (s : Unread) → k ≤ i → behind found (repeated r i (k - i) s) ≡ Ok (found ++ [], s)
-turns_end r k i found s h = let none : k - i ≡ 0 = omega arith in ap (λ n. behind found (repeated r i n s)) none

@@ -241,10 +241,7 @@ texts_are_short c is kept lean =
       length-append (line_text (codes "precond" ∷ codes "1" ∷ [])) (line_text graph ++ lines_text (middle ++ (codes "end" ∷ []) ∷ [])),
     )
 
--- ---- nine alternatives, at limits that are used and at greater ones
+-- ---- nine alternatives, at the limits
 
-nine : nat_le (text_bytes 1025 1024 16 32 48 9) 1073741824 ≡ true
+nine : nat_le (text_bytes POINTS EDGES VARIABLES ROWS PREMISES 9) 2147483648 ≡ true
 nine = refl
-
-nine_larger : nat_le (text_bytes 2049 2048 32 32 48 9) 2147483648 ≡ true
-nine_larger = refl

@@ -43,10 +43,6 @@ row_step r v c old mid new h e f g =
     ∙ ap (λ z. old ++ (joined (row_line v r) ++ (codes " " ++ numeral z))) e
     ∙ ap (λ z. old ++ z) (sym (row_more r v h))
 
--- the first number of a row
-pub row_start : (r : Linear) (old new : Bytes) → new ≡ old ++ numeral r.constant → new ≡ old ++ joined (row_line 0 r)
-row_start r old new e = e ∙ ap (λ z. old ++ z) (sym (append-nil (numeral r.constant)))
-
 -- the line feed of a line
 pub line_end : (ws : Words) (old mid new : Bytes) → mid ≡ old ++ joined ws → new ≡ mid ++ 10 ∷ [] → new ≡ old ++ line_text ws
 line_end ws old mid new e f = grown old mid new (joined ws) (10 ∷ []) e f
@@ -121,12 +117,6 @@ flat_more lines xs i x h e =
     ∙ lines_on (flat_map lines (take i xs)) (lines (get_or xs i x) ++ [])
     ∙ ap (λ ls. lines_text (flat_map lines (take i xs)) ++ lines_text ls) (append-nil (lines (get_or xs i x)))
     ∙ ap (λ y. lines_text (flat_map lines (take i xs)) ++ lines_text (lines y)) e
-
--- an item more of others
-pub flat_step : {A : Type 0} (lines : A → List Words) (xs : List A) (i : ℕ) (x : A) (old mid new : Bytes) → i < length xs → get_or xs i x ≡ x →
-    mid ≡ old ++ lines_text (flat_map lines (take i xs)) → new ≡ mid ++ lines_text (lines x) → new ≡ old ++ lines_text (flat_map lines (take (i + 1) xs))
-flat_step lines xs i x old mid new h e f g =
-    grown old mid new (lines_text (flat_map lines (take i xs))) (lines_text (lines x)) f g ∙ ap (λ z. old ++ z) (sym (flat_more lines xs i x h e))
 
 -- what holds of one item more
 pub all_more : {A : Type 0} (P : A → Type 0) (xs : List A) (i : ℕ) (x : A) → i < length xs → get_or xs i x ≡ x → AllByRecursion P (take i xs) → P x → AllByRecursion P (take (i + 1) xs)

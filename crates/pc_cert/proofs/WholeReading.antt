@@ -88,9 +88,6 @@ whole_by : (over : Bool) (c d : Certificate) (n : ℕ) → cond over (Ok c) (Err
 whole_by true c d n e = (refl, ok_same c d e)
 whole_by false c d n e = absurd (cc)
 
-certificate_lines_are : (z : Sizes) (all : List Annotated) → certificate_lines (certificate_with z all) ≡ version_line ∷ graph_line z ∷ alternatives_lines z.variables all
-certificate_lines_are z all = refl
-
 -- a certificate that is read is one whose lines these are, with nothing behind them
 pub certificate_sound : (n : ℕ) (ls : List Bytes) (tail : Bytes) (c : Certificate) → certificate_reader (unread_of n ls tail) ≡ Ok c →
     IsCertificate c × IsShowable c × (ls ≡ map joined (certificate_lines c)) × (tail ≡ [])

@@ -11,6 +11,8 @@ pub const POINTS: u32 = EDGES + 1;
 /// The most alternatives of a certificate that is read.
 pub const ALTERNATIVES: usize = 16;
 
+const _: () = prove!(ALTERNATIVES == 16);
+
 /// An alternative: rows for each point, and for each edge the proofs of the rows that it owes, in
 /// the order in which it owes them. Points and edges are numbered as in the graph.
 #[derive(Drop)]

@@ -8,8 +8,8 @@ ghost use Rattle.pc_flow.specs.Carry.{BackFits, back};
 use crate::edge::Edge;
 use crate::graph::Graph;
 use crate::what::What;
-use pc_rows::{Past, Row, substitute};
 use pc_language::Bound;
+use pc_rows::{Past, Row, substitute};
 
 /// A row at the target of an edge as a row at its source. A state meets it exactly where every state to which the edge
 /// leads meets `r`, and over a test or an assertion it is `r` itself. `Past` exactly where a product or a sum that an
@@ -20,7 +20,13 @@ pub fn back(e: &Edge, r: &Row) -> Result<Row, Past>
     match &e.what {
         What::Enter { params } => Ok(r.first(*params)),
         What::Test(_) => Ok(r.copy()),
-        What::Set { var, form, lo, hi } => substitute(r, *var, form, Some(end(*lo)), Some(end(*hi))),
+        What::Set { var, form, lo, hi } => substitute(
+            r,
+            *var,
+            form,
+            Some(end(*lo)),
+            Some(end(*hi)),
+        ),
         What::Check(_) => Ok(r.copy()),
     }
 }

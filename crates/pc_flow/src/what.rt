@@ -1,8 +1,10 @@
+use pc_language::{Bound, COMPARISONS};
 use pc_rows::{Row, Rows};
-use pc_language::Bound;
 
 /// The most rows of a test or an assertion: two for each comparison of a conjunction.
 pub const TEST_ROWS: usize = 16;
+
+const _: () = prove!(TEST_ROWS == 2 * COMPARISONS);
 
 /// What an edge asks of a state, and what it does to it.
 #[derive(Drop)]

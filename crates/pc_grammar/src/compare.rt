@@ -7,9 +7,8 @@ ghost use Rattle.pc_grammar.specs.Reads.{Reads};
 
 use crate::cursor::{Cursor, Stop};
 use crate::expr::expr;
-use pc_language::Terminal;
 use crate::tree::{CompareTree, TestTree};
-use pc_language::Op;
+use pc_language::{Op, Terminal};
 use sqlite_items::Items;
 use std::alloc::Global;
 

@@ -9,8 +9,8 @@ ghost use Rattle.pc_grammar.specs.Reads.{Reads};
 
 use crate::cursor::{Cursor, Stop};
 use crate::symbol::Symbol;
-use pc_language::Terminal;
 use crate::tree::ExprTree;
+use pc_language::Terminal;
 use sqlite_items::Boxed;
 use std::alloc::{AllocError, Global};
 

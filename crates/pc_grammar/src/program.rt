@@ -9,8 +9,8 @@ ghost use Rattle.pc_grammar.specs.Reads.{Reads};
 use crate::cursor::{Cursor, Stop};
 use crate::stmt::stmts;
 use crate::symbol::Symbol;
-use pc_language::Terminal;
 use crate::tree::ProgramTree;
+use pc_language::Terminal;
 use sqlite_items::Items;
 use std::alloc::Global;
 

@@ -10,9 +10,8 @@ ghost use Rattle.pc_grammar.specs.Reads.{Reads};
 use crate::cursor::{Cursor, Stop};
 use crate::expr::{addend, binary};
 use crate::symbol::Symbol;
-use pc_language::Terminal;
-use pc_language::{Bound, Choice};
 use crate::tree::{ExprTree, RightTree};
+use pc_language::{Bound, Choice, Terminal};
 use std::alloc::Global;
 
 /// The opposite of the value of a number, which is never below 0: so it fits.

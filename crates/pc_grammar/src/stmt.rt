@@ -8,8 +8,8 @@ ghost use Rattle.pc_grammar.specs.Reads.{Reads};
 use crate::compare::{enclosed_all, enclosed_test, tried};
 use crate::cursor::{Cursor, Stop};
 use crate::right::right;
-use pc_language::Terminal;
 use crate::tree::StmtTree;
+use pc_language::Terminal;
 use sqlite_items::Items;
 use std::alloc::Global;
 

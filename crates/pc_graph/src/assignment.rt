@@ -7,8 +7,7 @@ ghost use Rattle.pc_flow.specs.Arc.{IsFit};
 ghost use Rattle.pc_graph.specs.Lowering.{assigned, low_end, high_end};
 
 use pc_flow::What;
-use pc_language::Choice;
-use pc_language::Bound;
+use pc_language::{Bound, Choice};
 use pc_program::{Right, form_of};
 use std::alloc::Global;
 

@@ -10,11 +10,10 @@ ghost use Rattle.pc_graph.specs.Drawn.{begun, extended, with_point, with_edge, w
 ghost use Rattle.pc_graph.specs.Lowering.{one};
 ghost use Rattle.pc_graph.specs.Ways.{apart, is_lone, ways_of, ways};
 
-use pc_flow::Edge;
 use crate::row::{is_lone, negation, only};
-use pc_flow::What;
-use pc_rows::Rows;
+use pc_flow::{Edge, What};
 use pc_program::{Compare, Test, rows_of};
+use pc_rows::Rows;
 use pc_text::{NoMemory, Place};
 use sqlite_items::Items;
 use std::alloc::Global;

@@ -5,9 +5,9 @@ ghost use Rattle.pc_rows.specs.Linear.{negation};
 ghost use Rattle.pc_program.specs.Forms.{row_fits};
 ghost use Rattle.pc_graph.specs.Ways.{is_lone};
 
-use pc_rows::{Row, Rows};
-use pc_program::Compare;
 use pc_language::Op;
+use pc_program::Compare;
+use pc_rows::{Row, Rows};
 use pc_text::NoMemory;
 use std::alloc::Global;
 

@@ -11,4 +11,6 @@ pub const SIGNS: usize = 64;
 pub const COMPARISONS: usize = 8;
 
 /// The greatest number of edges of a program, of which the first leads into it.
-pub const EDGES: u32 = 1024;
+pub const EDGES: u32 = 2048;
+
+const _: () = prove!(BRACES == 64 && SIGNS == 64 && COMPARISONS == 8 && EDGES == 2048);

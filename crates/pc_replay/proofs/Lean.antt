@@ -60,8 +60,7 @@ lean_edge a kept x h = lean_by x.0.what (rows_at a x.0.to) (rows_at a x.0.from) 
 lean_alternatives : (g : Flow) (points edges variables : ℕ) (as' : List Annotated) → edges ≡ length g.edges → AllByRecursion IsAnnotated as' → AllByRecursion (IsShaped points edges variables) as' → AllByRecursion (AlternativeProved g) as' → AllByRecursion AreLean as'
 lean_alternatives g points edges variables [] e kept shaped proved = tt
 lean_alternatives g points edges variables (a ∷ as') e kept shaped proved =
-    let long = shaped.0.proofs in
-    (
+    let long = shaped.0.proofs in (
       seconds (λ (x : Arc × List Proof). EdgeProved a x.0 x.1) IsLean (lean_edge a kept.0) g.edges a.proofs (omega arith) proved.0.edges,
       lean_alternatives g points edges variables as' e kept.1 shaped.1 proved.1,
     )

@@ -1,11 +1,11 @@
 -- A state meets a row carried back over an assignment exactly where all its successors meet the row.
 use Rattle.std.proofs.Common.{◌≡◌, ℕ, zero, suc, ◌<◌, ℤ, pos, negsuc, ◌+ℤ◌, ◌-ℤ◌, ◌*ℤ◌, refl, sym, ap, subst, ◌∙◌, arith, ◌≤ℤ◌, List, [], ◌∷◌, length, get_or, set, Bool, true, false, cond, Option, Some, None}
-use Rattle.std.specs.Prelude.{◌↔◌, ◌+◌, ◌≤◌, ◌<ℤ◌, ◌||◌, int_lt, unsigned_abs}
+use Rattle.std.specs.Prelude.{◌↔◌, ◌+◌, ◌≤◌, ◌<ℤ◌, ◌||◌, int_lt, unsigned_abs, slice_set}
 use Rattle.std.proofs.lemmas.Bool.Decides.{nat_tests}
 use Rattle.std.proofs.lemmas.Int.{ints}
 use Rattle.std.proofs.Math.IntN.{zero-*ℤ}
 use Rattle.pc_rows.specs.Linear.{Linear, State, scale_list, dot, value, Meets, coefficient, is_zero}
-use Rattle.pc_rows.specs.Substitution.{carried, never_row, lesser, least_product, needs_open_end, IsNotBelow, IsNotAbove, AreOrdered, AllSuccessorsMeet}
+use Rattle.pc_rows.specs.Substitution.{carried, substituted, never_row, lesser, least_product, needs_open_end, IsNotBelow, IsNotAbove, AreOrdered, AllSuccessorsMeet}
 use Rattle.pc_rows.specs.Laws.{SubstitutionIsExact}
 use Rattle.pc_rows.proofs.Values.{value-constant}
 use Rattle.pc_rows.proofs.Ring.{mul_add, mul_le, mul_neg_left, le_refl_z}
@@ -171,3 +171,41 @@ module _ (r form : Linear) (x : ℕ) (lo hi : Option ℤ) (s : State) (h : x < l
 pub substitution_is_exact : SubstitutionIsExact
 substitution_is_exact r form x lo hi s h ordered =
     by_case r form x lo hi s h ordered (is_zero (coefficient r x)) (needs_open_end (coefficient r x) lo hi) refl refl
+
+-- where the row carried back is broken, some integer of the choice leads to a state that breaks the row
+module _ (r form : Linear) (x : ℕ) (lo hi : Option ℤ) (s : State) (h : x < length s) (ordered : AreOrdered lo hi) where
+  abbrev BreaksAt : ℤ → Type 0
+  BreaksAt c = Meets (slice_set s x (value form s +ℤ c)) r → ⊥
+
+  carried_breaks : x < length r.coefficients → is_zero (coefficient r x) ≡ false → needs_open_end (coefficient r x) lo hi ≡ false →
+      (Meets s (carried r x form lo hi) → ⊥) → Choice lo hi BreaksAt
+  carried_breaks k z e bad =
+      let c = least_at (coefficient r x) lo hi z e ordered in
+      let a = carried_value r form x lo hi s k in
+      let b = moved_value r form x c.0 s h in
+      let same = c.3 in
+      (c.0, c.1, c.2, (λ m. bad (omega (arith, ints))))
+
+  never_breaks : is_zero (coefficient r x) ≡ false → needs_open_end (coefficient r x) lo hi ≡ true → Choice lo hi BreaksAt
+  never_breaks z e =
+      let k = value r s +ℤ coefficient r x *ℤ value form s -ℤ coefficient r x *ℤ get_or s x (pos 0) in
+      let c = breaking (coefficient r x) k lo hi z e in
+      let b = moved_value r form x c.0 s h in
+      let low = c.3 in
+      (c.0, c.1, c.2, (λ m. omega (arith, ints)))
+
+  kept_breaks : coefficient r x ≡ pos 0 → (Meets s r → ⊥) → Choice lo hi BreaksAt
+  kept_breaks z bad =
+      let c = some_choice lo hi ordered in
+      (c.0, c.1, c.2, (λ m. bad (subst (λ v. pos 0 ≤ℤ v) (kept_value r form x c.0 s h z) m)))
+
+  breaks_by : (none is_open : Bool) → is_zero (coefficient r x) ≡ none → needs_open_end (coefficient r x) lo hi ≡ is_open →
+      (Meets s (cond none r (cond is_open never_row (carried r x form lo hi))) → ⊥) → Choice lo hi BreaksAt
+  breaks_by true is_open z e bad = kept_breaks (zero_is (coefficient r x) z) bad
+  breaks_by false true z e bad = never_breaks z e
+  breaks_by false false z e bad = carried_breaks (has_place r.coefficients x z) z e bad
+
+pub broken_choice : (r form : Linear) (x : ℕ) (lo hi : Option ℤ) (s : State) → x < length s → AreOrdered lo hi →
+    (Meets s (substituted r x form lo hi) → ⊥) → Choice lo hi (λ c. Meets (slice_set s x (value form s +ℤ c)) r → ⊥)
+broken_choice r form x lo hi s h ordered bad =
+    breaks_by r form x lo hi s h ordered (is_zero (coefficient r x)) (needs_open_end (coefficient r x) lo hi) refl refl bad

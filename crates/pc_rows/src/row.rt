@@ -21,7 +21,9 @@ mod substitution;
 pub use substitution::substitute;
 
 /// The number of variables of a row.
-pub const VARIABLES: usize = 16;
+pub const VARIABLES: usize = 32;
+
+const _: () = prove!(VARIABLES == 32);
 
 /// A constant and a coefficient for each variable, all in range. Variables are counted from 0 on.
 /// It keeps the coefficients other than 0 alone, inline, so that no call on a row needs memory and

@@ -12,6 +12,8 @@ use std::marker::Model;
 /// The most rows that a list holds.
 pub const ROWS: usize = 32;
 
+const _: () = prove!(ROWS == 32);
+
 /// Why a list of rows has no further row.
 #[derive(Clone, Copy, Debug, PartialEq, Eq)]
 pub enum RowsFault {

@@ -26,6 +26,10 @@ pub const MODEST_VARIABLES: usize = 3;
 /// The greatest absolute value of a number of a modest system.
 pub const MODEST_NUMBER: usize = 1023;
 
+const _: () = prove!(PREMISES == 48);
+
+const _: () = prove!(MODEST_ROWS == 12 && MODEST_VARIABLES == 3 && MODEST_NUMBER == 1023);
+
 /// At most `PREMISES` premises, in order, and a goal.
 #[derive(Drop)]
 pub struct System {

@@ -5,8 +5,8 @@ ghost use Rattle.pc_program.specs.Values as values;
 ghost use Rattle.pc_runner.specs.Checked as spec;
 
 use crate::evaluation::value_of;
-use pc_program::{Compare, Test};
 use pc_language::Op;
+use pc_program::{Compare, Test};
 use pc_text::Place;
 
 fn compared(op: Op, a: i128, b: i128) -> bool

@@ -8,6 +8,8 @@ use sqlite_items::Items;
 /// The greatest number of choices of a script.
 pub const CHOICES: usize = 1_000_000;
 
+const _: () = prove!(CHOICES == 1_000_000);
+
 /// What a program is run on: an integer for each parameter, and an integer for each step. All are
 /// in range, and there are at most [`CHOICES`] choices.
 #[derive(Debug, Drop)]

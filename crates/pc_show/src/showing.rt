@@ -12,9 +12,9 @@ mod names;
 mod rights;
 mod stmts;
 
-use pc_program::Program;
 use crate::showing::names::push_names;
 use crate::showing::stmts::push_stmts;
+use pc_program::Program;
 use pc_text::{Names, NoMemory, Text};
 use std::alloc::Global;
 

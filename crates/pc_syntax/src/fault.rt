@@ -1,5 +1,5 @@
-use pc_program::AffineFault;
 use pc_grammar::ParseFault;
+use pc_program::AffineFault;
 use pc_text::{LexFault, NoMemory, Place};
 use std::alloc::AllocError;
 

@@ -9,9 +9,9 @@ ghost use Rattle.pc_grammar.specs.Parsing.{parsed};
 ghost use Rattle.pc_syntax.specs.Faults.{Gives, of_tree};
 
 use crate::fault::SourceFault;
-use pc_program::Program;
 use crate::walk::walk_tree;
 use pc_grammar::{ProgramTree, Symbol, parse, symbols};
+use pc_program::Program;
 use pc_text::{Place, place_of, tokens};
 use std::alloc::Global;
 

@@ -11,11 +11,10 @@ mod names;
 mod stmts;
 
 use crate::fault::SourceFault;
-use pc_program::Program;
-use pc_program::{Expr, Stmt};
 use crate::walk::names::declared;
 use crate::walk::stmts::stmts;
 use pc_grammar::ProgramTree;
+use pc_program::{Expr, Program, Stmt};
 use pc_rows::Row;
 use sqlite_items::Items;
 use std::alloc::Global;

@@ -1,5 +1,5 @@
 -- The lines of a text, one after another, as the list of what stands between its line feeds.
-use Rattle.std.proofs.Common.{◌≡◌, ◌∙◌, refl, ap, subst, ℕ, zero, suc, ◌<◌, Bool, true, false, [], ◌∷◌, ◌++◌, length, length-append, arith}
+use Rattle.std.proofs.Common.{◌≡◌, ◌∙◌, refl, ap, subst, ℕ, zero, suc, ◌<◌, true, false, [], ◌∷◌, ◌++◌, length, arith}
 use Rattle.std.specs.List.{All}
 use Rattle.std.proofs.lemmas.Bool.{not-true}
 use Rattle.std.proofs.lemmas.List.Splits.{slice_split_at, slice_split_none}
@@ -27,13 +27,6 @@ line_first b line rest h = ap lines h.0 ∙ line_on line rest h.1
 
 pub line_last : (b line rest : Bytes) → IsLine b line false rest → lines b ≡ line ∷ []
 line_last b line rest h = ap lines h.0 ∙ slice_split_none is_line_feed line (no_feed line h.2)
-
-pub line_shorter : (b line rest : Bytes) (ended : Bool) → 0 < length b → IsLine b line ended rest → length rest < length b
-line_shorter b line rest true some h =
-    let long = ap length h.0 in
-    let sum = length-append line (10 ∷ rest) in
-    omega arith
-line_shorter b line rest false some h = let none = ap length h.1 in omega arith
 
 not_empty : (b : Bytes) → 0 < length b → is_empty b ≡ false
 not_empty [] h = absurd (omega arith)

@@ -7,6 +7,8 @@ pub const LARGEST: u128 = 170141183460469231731687303715884105727;
 /// The most bytes of a name.
 pub const NAME_BYTES: usize = 64;
 
+const _: () = prove!(NAME_BYTES == 64);
+
 /// What a token is.
 #[derive(Clone, Copy, Debug, PartialEq, Eq)]
 pub enum Kind {

@@ -7,8 +7,8 @@ ghost use Rattle.pc_show.specs.Pieces.{bytes_of};
 
 use crate::showing::exprs::push_expr;
 use crate::showing::level::Level;
-use pc_program::{Compare, Test};
 use pc_language::Op;
+use pc_program::{Compare, Test};
 use pc_text::{Names, NoMemory, Text};
 
 /// Appends the sign of a comparison, with a space on each side.

@@ -5,11 +5,10 @@ ghost use Rattle.pc_show.specs.Canonical as spec;
 ghost use Rattle.pc_show.specs.Pieces.{bytes_of};
 ghost use Rattle.pc_program.specs.Sane.{names_below};
 
-use pc_language::end_of;
 use crate::showing::exprs::push_expr;
 use crate::showing::level::Level;
+use pc_language::{Bound, Choice, end_of};
 use pc_program::Right;
-use pc_language::{Bound, Choice};
 use pc_text::{Names, NoMemory, Text};
 
 /// Appends an end of an interval.

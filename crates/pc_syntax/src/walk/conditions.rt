@@ -10,13 +10,12 @@ ghost use Rattle.pc_program.specs.Sane.{is_either};
 ghost use Rattle.pc_syntax.specs.Faults.{Gives};
 ghost use Rattle.pc_syntax.specs.Trees.{fit_compare, fit_each, fit_test, fit_right};
 
-use pc_language::end_of;
 use crate::fault::SourceFault;
-use pc_program::{Compare, Right, Test};
 use crate::walk::Formed;
 use crate::walk::exprs::formed;
-use pc_language::{Choice, Op};
 use pc_grammar::{CompareTree, RightTree, TestTree};
+use pc_language::{Choice, Op, end_of};
+use pc_program::{Compare, Right, Test};
 use pc_rows::Row;
 use pc_text::{Names, Place};
 use sqlite_items::Items;

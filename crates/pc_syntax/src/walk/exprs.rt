@@ -9,11 +9,10 @@ ghost use Rattle.pc_syntax.specs.Faults.{Gives};
 ghost use Rattle.pc_syntax.specs.Trees.{fit_expr};
 
 use crate::fault::SourceFault;
-use pc_program::{AffineFault, difference, multiple, product, sum};
-use pc_program::Expr;
 use crate::walk::Formed;
 use crate::walk::names::resolved;
 use pc_grammar::ExprTree;
+use pc_program::{AffineFault, Expr, difference, multiple, product, sum};
 use pc_rows::Row;
 use pc_text::{Names, Place};
 use sqlite_items::Boxed;

@@ -7,12 +7,12 @@ ghost use Rattle.pc_syntax.specs.Faults.{Gives};
 ghost use Rattle.pc_syntax.specs.Trees.{fit_each, fit_test, fit_stmt, fit_stmts};
 
 use crate::fault::SourceFault;
-use pc_language::EDGES;
-use pc_program::Stmt;
 use crate::walk::names::resolved;
 use crate::walk::conditions::{conjunction, right, test, test_edges};
 use crate::walk::{Counted, CountedList};
 use pc_grammar::{CompareTree, StmtTree, TestTree};
+use pc_language::EDGES;
+use pc_program::Stmt;
 use pc_text::{Names, Place};
 use sqlite_items::Items;
 use std::alloc::Global;

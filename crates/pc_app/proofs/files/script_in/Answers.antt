@@ -1,23 +1,28 @@
-use Rattle.std.proofs.Common.{rules, refl}
+use Rattle.std.proofs.Common.{rules, refl, inr}
 use Rattle.std.proofs.lemmas.Result.{err_from_is_err_and}
-use Rattle.pc_app.specs.declared.limits.TheConstants.{SCRIPT_BYTES}
-use Rattle.pc_app.specs.Texts.{script_too_long}
-use Rattle.pc_app.specs.Reading.{Nobody}
+use Rattle.pc_app.specs.Kinds.{script_kind}
 use Rattle.pc_app.specs.Silences.{IsLost}
-use Rattle.pc_app.specs.Answers.{ScriptAnswers}
-use Rattle.pc_app.specs.Answers.FileAnswers.{IsShort}
-use Rattle.pc_app.specs.Answers.ScriptAnswers.{IsNoScript}
-use Rattle.pc_app.proofs.OrderLemmas.{file_stops}
+use Rattle.pc_app.proofs.OrderLemmas.{bytes_stop}
 use Rattle.pc_app.proofs.ScriptLemmas.{faulty_means}
 use Rattle.pc_app.proofs.files.script_in.Goals as goal
 
 pub returns-in_err-bytes-clause-answered : goal.returns-in_err-bytes-clause-answered
 returns-in_err-bytes-clause-answered g c =
     let p = err_from_is_err_and c.from_residual.result c.from_residual.ensures.1 in
-    rw (p.1, p.2) (file_stops SCRIPT_BYTES script_too_long (ScriptAnswers c.args.params Nobody)
-    (g.S.Store.holding c.args.store.now c.args.name.now) (IsLost (g.S.Store.holding c.args.store.now c.args.name.now) (g.S.Store.faults c.args.store.now) (g.S.Store.faults c.bytes_in.new.store)) c.in_err-bytes.field-0.0 c.in_err-bytes.ensures.stops)
+    let held = g.S.Store.holding c.args.store.now c.args.name.now in
+    rw (p.1, p.2) (bytes_stop (script_kind c.args.params) held (IsLost held (g.S.Store.faults c.args.store.now) (g.S.Store.faults c.bytes_in.new.store)) c.in_err-bytes.field-0.0 c.in_err-bytes.ensures.stops)
 
 pub returns : goal.returns
 returns g c =
-    let has = c.in_ok-bytes.ensures.bytes in
-    record { answered = IsShort c.in_ok-bytes.bytes.items has.holds has.short (IsNoScript c.in-Err.fault (rw c.as_slice.ensures.value at (faulty_means _ _ c.in-Err.fault (search rules) c.in-Err.ensures)) refl c.in_ok-malformed_script-in-Err.ensures); counted = c.bytes_in.ensures.counted; kept = c.bytes_in.ensures.kept }
+    record {
+      answered = inr (record {
+        bytes = c.in_ok-bytes.bytes.items;
+        has = c.in_ok-bytes.ensures.bytes;
+        fault = c.in-Err.fault;
+        faulty = rw c.as_slice.ensures.value at (faulty_means _ _ c.in-Err.fault (search rules) c.in-Err.ensures);
+        status_is = refl;
+        text_is = c.in_ok-malformed_script-in-Err.ensures;
+      });
+      counted = c.bytes_in.ensures.counted;
+      kept = c.bytes_in.ensures.kept;
+    }

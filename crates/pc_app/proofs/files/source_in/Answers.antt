@@ -1,22 +1,27 @@
-use Rattle.std.proofs.Common.{rules, refl}
+use Rattle.std.proofs.Common.{rules, refl, inr}
 use Rattle.std.proofs.lemmas.Result.{err_from_is_err_and}
-use Rattle.pc_app.specs.declared.limits.TheConstants.{SOURCE_BYTES}
-use Rattle.pc_app.specs.Texts.{source_too_long}
-use Rattle.pc_app.specs.Reading.{Nobody}
+use Rattle.pc_app.specs.Kinds.{source_kind}
 use Rattle.pc_app.specs.Silences.{IsLost}
-use Rattle.pc_app.specs.Answers.{SourceAnswers}
-use Rattle.pc_app.specs.Answers.FileAnswers.{IsShort}
-use Rattle.pc_app.specs.Answers.SourceAnswers.{IsFaulty}
-use Rattle.pc_app.proofs.OrderLemmas.{file_stops}
+use Rattle.pc_app.proofs.OrderLemmas.{bytes_stop}
 use Rattle.pc_app.proofs.files.source_in.Goals as goal
 
 pub returns-in_err-bytes-clause-answered : goal.returns-in_err-bytes-clause-answered
 returns-in_err-bytes-clause-answered g c =
     let p = err_from_is_err_and c.from_residual.result c.from_residual.ensures.1 in
-    rw (p.1, p.2) (file_stops SOURCE_BYTES source_too_long (SourceAnswers Nobody)
-    (g.S.Store.holding c.args.store.now c.args.name.now) (IsLost (g.S.Store.holding c.args.store.now c.args.name.now) (g.S.Store.faults c.args.store.now) (g.S.Store.faults c.bytes_in.new.store)) c.in_err-bytes.field-0.0 c.in_err-bytes.ensures.stops)
+    let held = g.S.Store.holding c.args.store.now c.args.name.now in
+    rw (p.1, p.2) (bytes_stop source_kind held (IsLost held (g.S.Store.faults c.args.store.now) (g.S.Store.faults c.bytes_in.new.store)) c.in_err-bytes.field-0.0 c.in_err-bytes.ensures.stops)
 
 pub returns : goal.returns
 returns g c =
-    let has = c.in_ok-bytes.ensures.bytes in
-    record { answered = IsShort c.in_ok-bytes.bytes.items has.holds has.short (IsFaulty c.in-Err.fault (rw c.as_slice.ensures.value at (c.in-Err.ensures.faulty (search rules))) refl c.in_ok-refusal_of-in-Err.ensures); counted = c.bytes_in.ensures.counted; kept = c.bytes_in.ensures.kept }
+    record {
+      answered = inr (record {
+        bytes = c.in_ok-bytes.bytes.items;
+        has = c.in_ok-bytes.ensures.bytes;
+        fault = c.in-Err.fault;
+        faulty = rw c.as_slice.ensures.value at (c.in-Err.ensures.faulty (search rules));
+        status_is = refl;
+        text_is = c.in_ok-refusal_of-in-Err.ensures;
+      });
+      counted = c.bytes_in.ensures.counted;
+      kept = c.bytes_in.ensures.kept;
+    }

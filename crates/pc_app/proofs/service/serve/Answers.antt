@@ -19,6 +19,9 @@ returns-clause-too_long g c = ends.too_long _ _ _ _ _ _ _ _ _ c.respond.ensures.
 pub returns-clause-refused : goal.returns-clause-refused
 returns-clause-refused g c = ends.refused _ _ _ _ _ _ _ _ _ c.respond.ensures.ends
 
+pub returns-clause-malformed : goal.returns-clause-malformed
+returns-clause-malformed g c = ends.malformed _ _ _ _ _ _ _ _ _ c.respond.ensures.ends
+
 pub returns-clause-store : goal.returns-clause-store
 returns-clause-store g c = ends.store _ _ _ _ _ _ _ _ _ c.respond.ensures.ends
 

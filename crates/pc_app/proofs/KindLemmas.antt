@@ -1,0 +1,84 @@
+-- The bytes of a file of each kind have one meaning or a fault.
+use Rattle.std.proofs.Common.{◌≡◌, ◌∙◌, sym, Ok, Err, Some, None, Result, ◌⊎◌, inl, inr, refl, ℕ}
+use Rattle.pc_text.specs.Bytes.{Bytes}
+use Rattle.pc_program.specs.declared.program.Program.{Program}
+use Rattle.pc_syntax.specs.Context.{content_of}
+use Rattle.pc_syntax.specs.Spelling.{Spells, Faulty, Means}
+use Rattle.pc_syntax.specs.declared.fault.SourceFault.{SourceFault}
+use Rattle.pc_syntax.proofs.Readings.{each_text_has_one, each_text_has_no_more}
+use Rattle.pc_certificate.specs.Certificate.{Certificate}
+use Rattle.pc_cert.specs.CertificateTexts.{IsTextOf}
+use Rattle.pc_cert.specs.Faults.{fault_of}
+use Rattle.pc_cert.specs.declared.fault.CertFault.{CertFault}
+use Rattle.pc_cert.proofs.Meaning.{each_text_has_one_answer, text_determines_certificate}
+use Rattle.pc_runner.specs.Scripts.{Choosing, script_of}
+use Rattle.pc_runner.specs.declared.fault.ScriptFault.{ScriptFault}
+use Rattle.pc_app.specs.Files.{Kind}
+use Rattle.pc_app.specs.Kinds.{source_kind, script_kind, certificate_kind}
+
+-- bytes have a meaning or a fault, not both, and no two meanings but what are alike
+pub record IsDecided (kind : Kind) (Alike : kind.Meaning → kind.Meaning → Type 0) : Type 0 where
+  pub total : (bytes : Bytes) → ((m : kind.Meaning) × kind.Means bytes m) ⊎ ((f : kind.Fault) × kind.Faulty bytes f)
+  pub apart : (bytes : Bytes) (m : kind.Meaning) (f : kind.Fault) → kind.Means bytes m → kind.Faulty bytes f → ⊥
+  pub alike : (bytes : Bytes) (m n : kind.Meaning) → kind.Means bytes m → kind.Means bytes n → Alike m n
+
+-- ---- sources: programs are the same but for their proofs
+
+abbrev pub AreAlike : Program → Program → Type 0
+AreAlike p q = content_of p ≡ content_of q
+
+source_answer : (bytes : Bytes) (r : Result Program SourceFault) → Means bytes r → ((p : Program) × Spells bytes p) ⊎ ((f : SourceFault) × Faulty bytes f)
+source_answer bytes (Ok p) h = inl (p, h)
+source_answer bytes (Err f) h = inr (f, h)
+
+pub source_decided : IsDecided source_kind AreAlike
+source_decided =
+    record {
+      total = λ bytes. let x = each_text_has_one bytes in source_answer bytes x.0 x.1;
+      apart = λ bytes p f spells faulty. each_text_has_no_more bytes (Ok p) (Err f) spells faulty;
+      alike = λ bytes p q spells spells'. each_text_has_no_more bytes (Ok p) (Ok q) spells spells';
+    }
+
+-- ---- scripts
+
+script_answer : (params : ℕ) (bytes : Bytes) (r : Result Choosing ScriptFault) → script_of params bytes ≡ r → ((c : Choosing) × (script_of params bytes ≡ Ok c)) ⊎ ((f : ScriptFault) × (script_of params bytes ≡ Err f))
+script_answer params bytes (Ok c) h = inl (c, h)
+script_answer params bytes (Err f) h = inr (f, h)
+
+script_apart : (params : ℕ) (bytes : Bytes) (c : Choosing) (f : ScriptFault) → script_of params bytes ≡ Ok c → script_of params bytes ≡ Err f → ⊥
+script_apart params bytes c f means faulty = cc
+
+script_alike : (params : ℕ) (bytes : Bytes) (c d : Choosing) → script_of params bytes ≡ Ok c → script_of params bytes ≡ Ok d → c ≡ d
+script_alike params bytes c d means means' = cc
+
+pub script_decided : (params : ℕ) → IsDecided (script_kind params) (λ c d. c ≡ d)
+script_decided params =
+    record {
+      total = λ bytes. script_answer params bytes (script_of params bytes) refl;
+      apart = script_apart params;
+      alike = script_alike params;
+    }
+
+-- ---- certificates
+
+certificate_answer : (b : Bytes) →
+    ((c : Certificate) × IsTextOf b c × (fault_of b ≡ None)) ⊎ ((e : CertFault) × (fault_of b ≡ Some e) × ((c : Certificate) → IsTextOf b c → ⊥)) →
+    ((c : Certificate) × IsTextOf b c) ⊎ ((f : CertFault) × (fault_of b ≡ Some f))
+certificate_answer b (inl x) = inl (x.0, x.1)
+certificate_answer b (inr x) = inr (x.0, x.1)
+
+-- the text of a certificate has no fault
+text_has_no_fault : (b : Bytes) (c : Certificate) (f : CertFault) → IsTextOf b c → fault_of b ≡ Some f → ⊥
+text_has_no_fault b c f is faulty = by (each_text_has_one_answer b)
+  where
+    by : ((d : Certificate) × IsTextOf b d × (fault_of b ≡ None)) ⊎ ((e : CertFault) × (fault_of b ≡ Some e) × ((d : Certificate) → IsTextOf b d → ⊥)) → ⊥
+    by (inl x) = let none = x.2 in absurd (cc)
+    by (inr x) = x.2 c is
+
+pub certificate_decided : IsDecided certificate_kind (λ c d. c ≡ d)
+certificate_decided =
+    record {
+      total = λ bytes. certificate_answer bytes (each_text_has_one_answer bytes);
+      apart = text_has_no_fault;
+      alike = text_determines_certificate;
+    }

@@ -1,0 +1,62 @@
+-- Files by their kinds: what the bytes of a file may mean, and how they are answered where they mean nothing.
+use Rattle.std.specs.Prelude.{◌≡◌, ◌<◌, ◌≤◌, ◌⊎◌, ℕ, length}
+use Rattle.pc_ports.specs.Outside.{Holding, Untold, Nothing, Held}
+use Rattle.pc_text.specs.Bytes.{Bytes}
+use Rattle.pc_app.specs.declared.status.TheConstants.{TOO_LONG}
+
+-- a kind of file
+pub record Kind : Type 1 where
+  -- the most bytes, and the line that tells of more
+  pub limit : ℕ
+  pub long : Bytes
+  -- what bytes may mean
+  pub Meaning : Type 0
+  pub Means : Bytes → Meaning → Type 0
+  -- the faults of bytes that mean nothing, their status, and the line of each
+  pub Fault : Type 0
+  pub Faulty : Bytes → Fault → Type 0
+  pub status : ℕ
+  pub line : Fault → Bytes
+
+-- the bytes may be what is held, by what is told of it
+abbrev pub MayHold : Holding → Bytes → Type 0
+MayHold Untold bytes = Unit {0}
+MayHold Nothing bytes = ⊥
+MayHold (Held held) bytes = bytes ≡ held
+
+-- the file may hold these bytes, which are not too many
+pub record HasBytes (limit : ℕ) (held : Holding) (bytes : Bytes) : Type 0 where
+  pub holds : MayHold held bytes
+  pub short : length bytes ≤ limit
+
+-- the file may hold bytes that mean this
+pub record MayMean (kind : Kind) (held : Holding) (m : kind.Meaning) : Type 0 where
+  pub bytes : Bytes
+  pub has : HasBytes kind.limit held bytes
+  pub means : kind.Means bytes m
+
+-- a file that may hold too many bytes is answered
+pub record IsTooLong (limit : ℕ) (long : Bytes) (held : Holding) (status : ℕ) (text : Bytes) : Type 0 where
+  pub bytes : Bytes
+  pub holds : MayHold held bytes
+  pub more : limit < length bytes
+  pub status_is : status ≡ TOO_LONG
+  pub text_is : text ≡ long
+
+-- a file that may hold bytes with a fault is answered
+pub record IsFaulty (kind : Kind) (held : Holding) (status : ℕ) (text : Bytes) : Type 0 where
+  pub bytes : Bytes
+  pub has : HasBytes kind.limit held bytes
+  pub fault : kind.Fault
+  pub faulty : kind.Faulty bytes fault
+  pub status_is : status ≡ kind.status
+  pub text_is : text ≡ kind.line fault
+
+-- a file is answered that has no meaning
+abbrev pub IsUnread : Kind → Holding → ℕ → Bytes → Type 0
+IsUnread kind held status text = IsTooLong kind.limit kind.long held status text ⊎ IsFaulty kind held status text
+
+-- a file is answered, where its meaning is answered so
+pub data OnFile (kind : Kind) (A : kind.Meaning → ℕ → Bytes → Type 0) (held : Holding) (status : ℕ) (text : Bytes) : Type 0 where
+  IsRefused : IsUnread kind held status text → OnFile kind A held status text
+  IsRead : (m : kind.Meaning) → MayMean kind held m → A m status text → OnFile kind A held status text

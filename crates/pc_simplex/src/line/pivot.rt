@@ -1,0 +1,180 @@
+//! What a pivot makes of the lines of a table.
+
+ghost use Rattle.std.specs.Prelude.{◌≡◌, ◌≢◌, ◌<◌, ◌≤ℤ◌, ◌*ℤ◌, ◌-ℤ◌, int_div, int_rem, pos, true, OkIff, OnOk, length};
+ghost use Rattle.pc_rows.specs.Linear.{InRange};
+ghost use Rattle.pc_simplex.specs.Pivoting.{entry, is_up, signed, cell, cell_fits, number_after, number_fits, numbers_after, numbers_fit, other_after, other_fits, own_after, own_number, own_numbers, line_after, line_fits, ChangeIs};
+
+use super::Line;
+use crate::label::Label;
+use pc_rows::{Number, Past, VARIABLES};
+use std::marker::Model;
+
+/// What changes the other lines: the denominator before the pivot, and its column and its line. The
+/// number that is exchanged is kept beside them, and whether it is above 0.
+#[derive(Drop)]
+pub struct Pivot {
+    denominator: Number,
+    column: usize,
+    line: Line,
+    entry: Number,
+    up: bool,
+}
+
+impl Model for Pivot {
+    ghost use Rattle.std.specs.Prelude.{◌≡◌, ◌<◌, ◌≤ℤ◌, pos, int_lt, slice_index_or, length};
+    ghost use Rattle.pc_rows.specs.declared.row.TheConstants.{VARIABLES};
+    ghost use Rattle.pc_simplex.specs.Values.{Pivot as Kept};
+
+    ghost Value = { Kept };
+
+    ghost view = { λ p. record { denominator = p.denominator; column = p.column; line = p.line } };
+
+    ghost invariant = { λ p. (pos 1 ≤ℤ p.denominator) × (p.column < VARIABLES) × (length p.line.numbers ≡ VARIABLES) × (p.entry ≡ slice_index_or p.line.numbers p.column (pos 0)) × (p.up ≡ int_lt (pos 0) p.entry) };
+}
+
+impl Pivot {
+    /// The pivot at a line and a column, over a denominator.
+    pub fn new(denominator: Number, line: &Line, column: usize) -> Pivot
+        requires denominator { pos 1 ≤ℤ denominator }
+        requires column { column < VARIABLES }
+        ensures { result ≡ record { denominator = denominator; column = column; line = line.now } }
+    {
+        let entry = line.number(column);
+        Pivot {
+            denominator,
+            column,
+            line: *line,
+            entry,
+            up: !entry.is_at_most(Number::new(0)),
+        }
+    }
+
+    /// The denominator after the pivot: the absolute value of the number that is exchanged.
+    pub fn denominator_after(&self) -> Number
+        ensures { result ≡ signed (is_up self.now) (entry self.now) }
+    {
+        signed(self.up, self.entry)
+    }
+
+    /// What the pivot's own line becomes, with the label of the column.
+    fn own_after(&self, label: Label) -> Line
+        ensures { result ≡ own_after self.now label }
+    {
+        Line {
+            label,
+            constant: signed(self.up, self.line.constant).negated(),
+            numbers: self.own_numbers(),
+        }
+    }
+
+    /// Changes a line, where `here` says whether it is the pivot's own. `Past` exactly where something
+    /// does not fit, and then the line is to be used no more.
+    pub fn change(&self, here: bool, label: Label, line: &mut Line) -> Result<(), Past>
+        ensures { ChangeIs (line_fits self.now here line.old) (line_after self.now label here line.old) result line.new }
+    {
+        if here {
+            *line = self.own_after(label);
+            return Ok(());
+        }
+        self.change_other(line)
+    }
+
+    fn own_numbers(&self) -> [Number; VARIABLES]
+        ensures { result ≡ own_numbers self.now 0 self.now.line.numbers }
+    {
+        let mut all = self.line.numbers;
+        for k in 0..VARIABLES {
+            all[k] = self.own_number(k == self.column, self.line.numbers[k]);
+        }
+        all
+    }
+
+    fn own_number(&self, here: bool, x: Number) -> Number
+        ensures { result ≡ own_number self.now here x }
+    {
+        if here {
+            signed(self.up, self.denominator)
+        } else {
+            signed(self.up, x).negated()
+        }
+    }
+
+    fn change_other(&self, line: &mut Line) -> Result<(), Past>
+        ensures { ChangeIs (other_fits self.now line.old) (other_after self.now line.old) result line.new }
+    {
+        let factor = line.number(self.column);
+        line.constant = self.cell(factor, line.constant, self.line.constant)?;
+        self.change_numbers(factor, &mut line.numbers)
+    }
+
+    fn change_numbers(&self, factor: Number, numbers: &mut [Number; VARIABLES]) -> Result<(), Past>
+        ensures value { ChangeIs (numbers_fit self.now factor 0 numbers.old self.now.line.numbers) (numbers_after self.now factor 0 numbers.old self.now.line.numbers) result numbers.new }
+        ensures long { length numbers.new ≡ VARIABLES }
+    {
+        for k in 0..VARIABLES {
+            numbers[k] = self.number_after(
+                factor,
+                k == self.column,
+                numbers[k],
+                self.line.numbers[k],
+            )?;
+        }
+        Ok(())
+    }
+
+    fn number_after(&self, factor: Number, here: bool, x: Number, y: Number) -> Result<Number, Past>
+        ensures { OkIff result (number_fits self.now factor here x y ≡ true) (number_after self.now factor here x y) }
+    {
+        if here {
+            Ok(signed(self.up, x))
+        } else {
+            self.cell(factor, x, y)
+        }
+    }
+
+    fn cell(&self, factor: Number, x: Number, y: Number) -> Result<Number, Past>
+        ensures { OkIff result (cell_fits self.now factor x y ≡ true) (cell self.now factor x y) }
+    {
+        // most numbers of a table are 0, and then nothing changes
+        if x.is_zero() && y.is_zero() {
+            return Ok(x);
+        }
+        let difference = difference(self.entry, x, factor, y)?;
+        Ok(signed(self.up, quotient(difference, self.denominator)?))
+    }
+}
+
+fn difference(a: Number, x: Number, b: Number, y: Number) -> Result<Number, Past>
+    ensures { OkIff result (InRange (a *ℤ x) × InRange (b *ℤ y) × InRange (a *ℤ x -ℤ b *ℤ y)) (a *ℤ x -ℤ b *ℤ y) }
+{
+    a.times(x)?.minus(b.times(y)?)
+}
+
+/// The quotient. `Past` exactly where it is not whole or not in range.
+fn quotient(n: Number, d: Number) -> Result<Number, Past>
+    requires { pos 1 ≤ℤ d }
+    ensures { OkIff result ((int_rem n d ≡ pos 0) × InRange (int_div n d)) (int_div n d) }
+{
+    // most denominators are 1, and a division of wide numbers is slow
+    if d == Number::new(1) {
+        let _in_range = n.get();
+        return Ok(n);
+    }
+    divided(n, d)
+}
+
+fn divided(n: Number, d: Number) -> Result<Number, Past>
+    requires { pos 1 ≤ℤ d }
+    ensures { OkIff result ((int_rem n d ≡ pos 0) × InRange (int_div n d)) (int_div n d) }
+{
+    if n.get() % d.get() != 0 {
+        return Err(Past);
+    }
+    Ok(Number::new(n.get() / d.get()))
+}
+
+fn signed(up: bool, n: Number) -> Number
+    ensures { result ≡ signed up n }
+{
+    if up { n } else { n.negated() }
+}
