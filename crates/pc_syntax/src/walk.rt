@@ -5,10 +5,10 @@ ghost use Rattle.pc_syntax.specs.Context.{checked};
 ghost use Rattle.pc_syntax.specs.Spelling.{GivesProgram};
 ghost use Rattle.pc_syntax.specs.Trees.{fit_tree};
 
+mod conditions;
 mod exprs;
 mod names;
 mod stmts;
-mod tests;
 
 use crate::fault::SourceFault;
 use crate::walk::names::declared;

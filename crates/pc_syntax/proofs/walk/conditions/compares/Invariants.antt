@@ -1,7 +1,7 @@
 use Rattle.std.proofs.Common.{◌≡◌, drop}
 use Rattle.pc_syntax.specs.Context.{checked_each}
 use Rattle.pc_syntax.specs.Walks.{behind}
-use Rattle.pc_syntax.proofs.walk.tests.compares.Given as goal
+use Rattle.pc_syntax.proofs.walk.conditions.compares.Given as goal
 
 abbrev pub invariant-loop-c : goal.invariant-loop-c
 invariant-loop-c l =

@@ -1,6 +1,6 @@
 use Rattle.pc_rows.specs.Linear.{difference_of}
 use Rattle.pc_syntax.proofs.FitLemmas.{ok_fits_both, err_fits_none}
-use Rattle.pc_syntax.proofs.walk.tests.difference_fits.Goals as goal
+use Rattle.pc_syntax.proofs.walk.conditions.difference_fits.Goals as goal
 
 pub returns-in-Ok : goal.returns-in-Ok
 returns-in-Ok c = ok_fits_both c.in-Ok.r (difference_of c.args.a.now c.args.b.now) c.negation_fits.result c.in-Ok.ensures c.negation_fits.ensures
