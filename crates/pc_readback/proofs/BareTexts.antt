@@ -146,10 +146,9 @@ module _ (names : List Bytes) where
 
 -- the text of a program whose statements have these pieces
 abbrev text_of : Named → List (ℕ → List Piece) → Bytes
-text_of names fs = bytes_of (
-  opened terminal.Entry (names_pieces (take names.params names.names)) ++
-      (Blank 1 ∷ Mark terminal.OpenBrace ∷ LineEnd ∷ locals_pieces (drop names.params names.names) ++ (lines fs 2 ++ Mark terminal.CloseBrace ∷ LineEnd ∷ [])),
-)
+text_of names fs =
+    let body = lines fs 2 ++ Mark terminal.CloseBrace ∷ LineEnd ∷ [] in
+    bytes_of (opened terminal.Entry (names_pieces (take names.params names.names)) ++ (Blank 1 ∷ Mark terminal.OpenBrace ∷ LineEnd ∷ locals_pieces (drop names.params names.names) ++ body))
 
 text_bare : (names : Named) (body : List Stmt) → program_text names (bare body) ≡ program_text names body
 text_bare names body = ap (text_of names) (each_bare names.names body (all_by (SameLines names.names) (stmt_bare names.names) body))

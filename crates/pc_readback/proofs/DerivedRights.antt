@@ -21,7 +21,7 @@ use Rattle.pc_show.specs.declared.showing.level.Level.TheVariants as level
 use Rattle.pc_show.specs.Pieces.{Blank, Mark, Number}
 use Rattle.pc_show.specs.Canonical.{spaced, expr_pieces, bound_pieces, choice_pieces, right_pieces}
 use Rattle.pc_language.specs.Ends.{end_of}
-use Rattle.pc_program.specs.Forms.{form}
+use Rattle.pc_program.specs.Forms.{bind, form}
 use Rattle.pc_program.specs.Sane.{sane_expr, in_order, sane_choice, sane_right}
 use Rattle.pc_syntax.specs.Context.{checked_ends, checked_choice, checked_right}
 use Rattle.pc_readback.specs.Bare.{bare_expr, bare_right}
@@ -46,7 +46,7 @@ ends_stand x end.Open (end.At b) h = refl
 ends_stand x end.Open end.Open h = refl
 
 choice_stands : (c x : Choice) → sane_choice (Some c) ≡ true → HasEnds c x → checked_choice (Some x) ≡ Ok (Some x)
-choice_stands c x h (lo, hi) = rw (lo, hi, ends_stand x c.lo c.hi h) refl
+choice_stands c x h (lo, hi) = let ordered : in_order (end_of x.lo) (end_of x.hi) ≡ true = rw (lo, hi) h in ap (λ r. bind r (λ d. Ok (Some d))) (ends_stand x x.lo x.hi ordered)
 
 module _ (src : Bytes) where
   number_derives : (z : ℤ) → Derive src (bound_pieces (end.At z)) grammar.is_closed_bound (λ x. x ≡ end.At z)
