@@ -17,13 +17,15 @@ use Rattle.pc_program.proofs.Results.{and_is}
 use Rattle.pc_program.proofs.Stmts.{by_stmt, all_by}
 use Rattle.pc_flow.specs.Arc.{Arc, arc}
 use Rattle.pc_flow.specs.declared.what.What.TheVariants.{Enter, Test}
-use Rattle.pc_graph.specs.Corresponds.{IsNoStep, IsStep, RunsHaveWalks, WalksHaveRuns, SameSteps, StepsCorrespond}
+use Rattle.pc_graph.specs.Corresponds.{IsEntered, IsNoStep, IsStep, RunsHaveWalks, WalksHaveRuns, SameSteps, StepsCorrespond}
 use Rattle.pc_flow.specs.Lists.{In}
 use Rattle.pc_graph.specs.Lowering.{graph, made, no_steps}
 use Rattle.pc_graph.specs.Rest.{rest, rests_of}
 use Rattle.pc_flow.specs.Walk.{Pass, Keeps, Walks, Walk, GraphSafe}
 use Rattle.pc_flow.proofs.Lists.{each_at, each_in, each_more}
 use Rattle.pc_graph.proofs.Rules.{TiesOne, list_ties, set_ties, if_ties, while_ties, check_ties, assume_ties}
+use Rattle.pc_flow.proofs.Entries.{to_start}
+use Rattle.pc_graph.proofs.Graphs.{graph_kept}
 use Rattle.pc_graph.proofs.Tied.{Holds, ArcOk, Fired, Fires, Simulates, fires, joins, Tied}
 
 statement_ties : (vars : ℕ) (g : List Arc) (ρ : ℕ → List Stmt) (js : List Arc) (x : Stmt) → TiesOne vars g ρ js x
@@ -135,6 +137,12 @@ holds_from ρ (x ∷ xs) m h =
       holds_from ρ xs (m + 1) (λ i. let e : m + suc i ≡ (m + 1) + i = omega arith in subst (λ q. ρ q ≡ get_or xs i []) e (h (suc i))),
     )
 
+-- the edge from the entry
+entered_edges : (p : Program) (e : Arc) → In e (graph p).edges → e.from ≡ 0 → IsEntered p e
+entered_edges p e m from =
+    let is = each_at (λ e. e.from ≡ 0 → e ≡ arc 0 1 (Enter p.names.params)) (graph p).edges e (to_start (graph p) (graph_kept p)) m from in
+    subst (IsEntered p) (sym is) (record { rests = refl; stays = λ s t long pass. pass ∙ zero_from_entry p.names.params (locals p.names) s long })
+
 module _ (p : Program) (s : State) (long : length s ≡ p.names.params) where
   abbrev g : List Arc
   g = (graph p).edges
@@ -233,7 +241,7 @@ module _ (p : Program) (s : State) (long : length s ≡ p.names.params) where
         safe = (to_graph, from_graph);
         broken = λ b. broken_at b.0 b.1 b.2 b.3 b.4.0 b.4.1 b.4.2 b.4.3;
         edges = record {
-          first = refl;
+          first = entered_edges p;
           joins = tied.skips;
           others = each_more (λ e. ArcOk ρ js e × Simulates g ρ e.to) (λ e. In e js ⊎ IsStep ρ e) (λ e h. h.0.moves) (made p).edges (tied.edges end_simulates);
         };

@@ -10,7 +10,7 @@ use Rattle.pc_flow.specs.Arc.{Arc}
 use Rattle.pc_flow.specs.Lists.{In}
 use Rattle.pc_graph.specs.Lowering.{graph, made, no_steps}
 use Rattle.pc_graph.specs.Rest.{rest}
-use Rattle.pc_flow.specs.Walk.{Pass, Walk, IsEntry, GraphSafe, Breaks}
+use Rattle.pc_flow.specs.Walk.{Pass, Walk, IsEntry, GraphSafe, Breaks, entered}
 
 -- a run that is still going has a walk to a point with the statements still to be run, in the same state
 abbrev pub RunsHaveWalks : Program → State → Type 0
@@ -36,9 +36,14 @@ IsNoStep rests e = (rests e.from ≡ rests e.to) × ((s t : State) → Pass e.wh
 abbrev pub IsStep : (ℕ → List Stmt) → Arc → Type 0
 IsStep rests e = (s t : State) → Pass e.what s t → (c : ℤ) × (step (rests e.from) s c ≡ Going (rests e.to) t)
 
+-- an edge from the entry is no step: the state in which a run begins stays as it is
+pub record IsEntered (p : Program) (e : Arc) : Type 0 where
+  pub rests : rest p e.from ≡ rest p e.to
+  pub stays : (s t : State) → IsEntry (graph p) s → Pass e.what (entered (graph p) s) t → t ≡ entered (graph p) s
+
 -- the edges to the end of an `if` and back to a head are no step, as is the first; every other edge is one step
 pub record EdgesAreSteps (p : Program) : Type 0 where
-  pub first : rest p 0 ≡ rest p 1
+  pub first : (e : Arc) → In e (graph p).edges → e.from ≡ 0 → IsEntered p e
   pub joins : Each (IsNoStep (rest p)) (no_steps p)
   pub others : Each (λ e. In e (no_steps p) ⊎ IsStep (rest p) e) (made p).edges
 
