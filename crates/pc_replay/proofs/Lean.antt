@@ -1,5 +1,5 @@
 -- An edge that is proved has no more proofs than a point may have rows, or no more premises.
-use Rattle.std.proofs.Common.{◌≡◌, ◌∙◌, ap, refl, sym, subst, ℕ, zero, suc, ◌<◌, ◌≤◌, List, [], ◌∷◌, ◌++◌, length, get_or, inl, inr, arith}
+use Rattle.std.proofs.Common.{◌≡◌, ap, refl, ℕ, zero, suc, ◌<◌, ◌≤◌, List, [], ◌∷◌, ◌++◌, length, get_or, inl, inr, arith}
 use Rattle.std.specs.List.{AllByRecursion, zip}
 use Rattle.std.proofs.lemmas.List.{append-nil}
 use Rattle.pc_rows.specs.declared.rows.TheConstants.{ROWS}
@@ -13,8 +13,8 @@ use Rattle.pc_flow.specs.Carry.{back_all, owes, test_rows}
 use Rattle.pc_flow.specs.Flow.{Flow}
 use Rattle.pc_flow.proofs.Lists.{each_more}
 use Rattle.pc_certificate.specs.declared.certificate.Annotated.{Annotated}
-use Rattle.pc_certificate.specs.Certificate.{Certificate, IsAnnotated, IsCertificate, NamesPremises, IsLean, AreLean}
-use Rattle.pc_replay.specs.Accepts.{RowProved, EdgeProved, AlternativeProved, Accepts}
+use Rattle.pc_certificate.specs.Certificate.{IsAnnotated, NamesPremises, IsLean, AreLean}
+use Rattle.pc_replay.specs.Accepts.{RowProved, EdgeProved, AlternativeProved}
 use Rattle.pc_replay.specs.Flaws.{asked}
 use Rattle.pc_replay.specs.Laws.{AcceptedIsLean}
 use Rattle.pc_replay.specs.Rule.{rows_at}
@@ -60,8 +60,7 @@ lean_edge a kept x h = lean_by x.0.what (rows_at a x.0.to) (rows_at a x.0.from) 
 lean_alternatives : (g : Flow) (points edges variables : ℕ) (as' : List Annotated) → edges ≡ length g.edges → AllByRecursion IsAnnotated as' → AllByRecursion (IsShaped points edges variables) as' → AllByRecursion (AlternativeProved g) as' → AllByRecursion AreLean as'
 lean_alternatives g points edges variables [] e kept shaped proved = tt
 lean_alternatives g points edges variables (a ∷ as') e kept shaped proved =
-    let long = shaped.0.proofs in
-    (
+    let long = shaped.0.proofs in (
       seconds (λ (x : Arc × List Proof). EdgeProved a x.0 x.1) IsLean (lean_edge a kept.0) g.edges a.proofs (omega arith) proved.0.edges,
       lean_alternatives g points edges variables as' e kept.1 shaped.1 proved.1,
     )

@@ -1,5 +1,5 @@
 -- What is wrong with a proof of a row that an edge owes: the first of its flaws, in the order of the rule.
-use Rattle.std.specs.Prelude.{ℕ, ℤ, ◌+◌, nat_lt, ◌&&◌, Bool, pos, int_le, List, ◌++◌, length, Option, Some, None, if◌then◌else◌}
+use Rattle.std.specs.Prelude.{ℕ, ℤ, nat_lt, ◌&&◌, Bool, pos, int_le, List, ◌++◌, length, Option, Some, None, if◌then◌else◌}
 use Rattle.std.specs.List.{list_all, position_from}
 use Rattle.std.specs.Prelude.{not}
 use Rattle.pc_rows.specs.Linear.{Linear, is_zero}

@@ -1,5 +1,4 @@
 use Rattle.std.proofs.Common.{◌∙◌, ap, arith}
-use Rattle.pc_replay.specs.Rule.{rows_at}
 use Rattle.pc_replay.specs.Shape.{first_beyond}
 use Rattle.pc_replay.proofs.Edges.{alternative_accepts, alternative_refuses, alternative_goes_on}
 use Rattle.pc_replay.proofs.replay.alternative.Goals as goal
