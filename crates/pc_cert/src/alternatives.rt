@@ -7,8 +7,8 @@ ghost use Rattle.pc_rows.specs.Linear.{InRange, IsOver};
 ghost use Rattle.pc_certificate.specs.Certificate.{entry_rows, condition_of, SaysOf};
 ghost use Rattle.pc_cert.specs.Law.{TextDeterminesCondition};
 
-use pc_certificate::{Annotated, Certificate};
 use crate::row::push_row;
+use pc_certificate::{Annotated, Certificate};
 use pc_rows::Rows;
 use pc_text::{Names, NoMemory, Text};
 use std::alloc::Global;

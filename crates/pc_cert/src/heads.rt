@@ -7,9 +7,9 @@ ghost use Rattle.pc_cert.specs.Readers.{line_value, goes_on, head_value};
 ghost use Rattle.pc_text.specs.Words.{words};
 ghost use Rattle.pc_cert.specs.declared.sizes.Sizes.{Sizes};
 
-use pc_certificate::ALTERNATIVES;
-use crate::sizes::Sizes;
 use crate::fault::CertFault;
+use crate::sizes::Sizes;
+use pc_certificate::ALTERNATIVES;
 use pc_text::{Words, count_of};
 
 /// The next word as a count.

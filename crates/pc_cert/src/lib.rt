@@ -17,10 +17,10 @@ mod showing;
 mod sizes;
 
 pub use alternatives::{push_rows, show_condition, text_determines_condition};
-pub use pc_certificate::{ALTERNATIVES, Annotated, Certificate, EDGES, POINTS};
 pub use fault::CertFault;
 pub use laws::{each_text_has_one_answer, text_determines_certificate};
 pub use lengths::texts_are_short;
+pub use pc_certificate::{ALTERNATIVES, Annotated, Certificate, EDGES, POINTS};
 pub use reading::read_certificate;
 pub use row::push_row;
 pub use showing::show_certificate;

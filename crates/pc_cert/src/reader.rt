@@ -7,10 +7,10 @@ ghost use Rattle.pc_cert.specs.Readers as spec;
 ghost use Rattle.pc_cert.specs.Forms.{number_at};
 ghost use Rattle.pc_cert.specs.declared.sizes.Sizes.{Sizes};
 
-use pc_certificate::ALTERNATIVES;
-use crate::sizes::Sizes;
 use crate::fault::CertFault;
+use crate::sizes::Sizes;
 use crate::{heads, proof_lines, row_lines};
+use pc_certificate::ALTERNATIVES;
 use pc_rows::{PREMISES, Proof, ROWS, Row, VARIABLES};
 use pc_text::Lines;
 use std::alloc::Global;

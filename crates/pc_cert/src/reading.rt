@@ -6,10 +6,10 @@ ghost use Rattle.pc_cert.specs.CertificateTexts.{IsTextOf};
 ghost use Rattle.pc_certificate.specs.Certificate.{Certificate as Claim};
 ghost use Rattle.pc_cert.specs.Readers as spec;
 
-use pc_certificate::{ALTERNATIVES, Annotated, Certificate};
-use crate::sizes::Sizes;
 use crate::fault::CertFault;
 use crate::reader::Reader;
+use crate::sizes::Sizes;
+use pc_certificate::{ALTERNATIVES, Annotated, Certificate};
 use pc_rows::{Proof, ROWS, Rows, VARIABLES};
 use sqlite_items::Items;
 use std::alloc::Global;
