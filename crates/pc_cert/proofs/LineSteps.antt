@@ -9,7 +9,6 @@ use Rattle.pc_rows.specs.Linear.{Linear, in_range, is_zero, with_coefficient}
 use Rattle.pc_text.specs.Bytes.{Bytes}
 use Rattle.pc_text.specs.Digits.{natural_of}
 use Rattle.pc_text.specs.Numerals.{integer_of}
-use Rattle.pc_cert.specs.declared.fault.CertFault.{CertFault}
 use Rattle.pc_text.specs.declared.numerals.Word.{Word}
 use Rattle.pc_text.specs.declared.numerals.Word.TheVariants as word
 use Rattle.pc_text.specs.Words.{Words, is_count, is_numeral, count_of, word_of}

@@ -3,7 +3,6 @@ use Rattle.std.proofs.Common.{◌≡◌, ap, cond, ℤ, arith}
 use Rattle.std.proofs.lemmas.Bool.Decides.{nat_tests}
 use Rattle.pc_rows.specs.Linear.{in_range}
 use Rattle.pc_text.specs.declared.numerals.Word.TheVariants as word
-use Rattle.pc_text.specs.declared.token.TheConstants.{LARGEST}
 use Rattle.pc_text.specs.Bytes.{Bytes}
 use Rattle.pc_text.specs.Numerals.{integer_of, is_in_range}
 use Rattle.pc_text.specs.Words.{is_numeral, word_of}

@@ -1,5 +1,5 @@
 -- How long the text of a certificate may be.
-use Rattle.std.proofs.Common.{◌≡◌, ℕ, suc, ◌+◌, ◌*◌, ◌^◌, ◌≤◌, ◌<◌, nat_le, inl, inr, refl, arith, List, [], ◌∷◌, ◌++◌, length, map, take, length-append, codes, Bool, true, false, cond, ℤ, pos, negsuc, unsigned_abs, length-take}
+use Rattle.std.proofs.Common.{◌≡◌, ℕ, suc, ◌+◌, ◌*◌, ◌^◌, ◌≤◌, ◌<◌, nat_le, inl, inr, refl, arith, List, [], ◌∷◌, ◌++◌, length, map, take, length-append, codes, Bool, true, false, cond, ℤ, pos, negsuc, length-take}
 use Rattle.std.specs.Prelude.{◌==◌}
 use Rattle.std.specs.List.{AllByRecursion, flat_map}
 use Rattle.std.specs.Int.Digits.{digits_of}

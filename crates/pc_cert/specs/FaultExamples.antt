@@ -28,7 +28,7 @@ line_feed_missing : fault_of (head ++ codes "-7 0\nedge 0 0\nend") ≡ Some (fau
 unfolding fault_of class
 line_feed_missing = refl
 
-too_many_points : fault_of (codes "precond 1\ngraph 1026 8 2\nend\n") ≡ Some (fault.Number 2)
+too_many_points : fault_of (codes "precond 1\ngraph 2050 8 2\nend\n") ≡ Some (fault.Number 2)
 unfolding fault_of class
 too_many_points = refl
 

@@ -1,5 +1,5 @@
 -- An edge that is proved has no more proofs than a point may have rows, or no more premises.
-use Rattle.std.proofs.Common.{◌≡◌, ◌∙◌, ap, refl, sym, subst, ℕ, zero, suc, ◌<◌, ◌≤◌, List, [], ◌∷◌, ◌++◌, length, get_or, inl, inr, arith}
+use Rattle.std.proofs.Common.{◌≡◌, ap, refl, ℕ, zero, suc, ◌<◌, ◌≤◌, List, [], ◌∷◌, ◌++◌, length, get_or, inl, inr, arith}
 use Rattle.std.specs.List.{AllByRecursion, zip}
 use Rattle.std.proofs.lemmas.List.{append-nil}
 use Rattle.pc_rows.specs.declared.rows.TheConstants.{ROWS}
@@ -13,8 +13,8 @@ use Rattle.pc_flow.specs.Carry.{back_all, owes, test_rows}
 use Rattle.pc_flow.specs.Flow.{Flow}
 use Rattle.pc_flow.proofs.Lists.{each_more}
 use Rattle.pc_certificate.specs.declared.certificate.Annotated.{Annotated}
-use Rattle.pc_certificate.specs.Certificate.{Certificate, IsAnnotated, IsCertificate, NamesPremises, IsLean, AreLean}
-use Rattle.pc_replay.specs.Accepts.{RowProved, EdgeProved, AlternativeProved, Accepts}
+use Rattle.pc_certificate.specs.Certificate.{IsAnnotated, NamesPremises, IsLean, AreLean}
+use Rattle.pc_replay.specs.Accepts.{RowProved, EdgeProved, AlternativeProved}
 use Rattle.pc_replay.specs.Flaws.{asked}
 use Rattle.pc_replay.specs.Laws.{AcceptedIsLean}
 use Rattle.pc_replay.specs.Rule.{rows_at}
