@@ -7,8 +7,8 @@ ghost use Rattle.pc_syntax.specs.Faults.{Gives};
 ghost use Rattle.pc_syntax.specs.Trees.{fit_each, fit_test, fit_stmt, fit_stmts};
 
 use crate::fault::SourceFault;
-use crate::walk::names::resolved;
 use crate::walk::conditions::{conjunction, right, test, test_edges};
+use crate::walk::names::resolved;
 use crate::walk::{Counted, CountedList};
 use pc_grammar::{CompareTree, StmtTree, TestTree};
 use pc_language::EDGES;
