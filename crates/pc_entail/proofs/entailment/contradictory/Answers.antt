@@ -2,7 +2,7 @@ use Rattle.pc_entail.proofs.Finding.{contradictory_is, contradictory_states}
 use Rattle.pc_entail.proofs.entailment.contradictory.Goals as goal
 
 pub returns-clause-evidence : goal.returns-clause-evidence
-returns-clause-evidence c = contradictory_is c.args.a.now c.show-2.result (rw (c.new.ensures, c.of_constant.ensures) at c.show-2.ensures)
+returns-clause-evidence c = contradictory_is c.args.a.now c.show-3.result (rw (c.new.ensures, c.of_constant.ensures) at c.show-3.ensures)
 
 pub returns-clause-states : goal.returns-clause-states
-returns-clause-states c = contradictory_states c.args.a.now c.show-2.result (contradictory_is c.args.a.now c.show-2.result (rw (c.new.ensures, c.of_constant.ensures) at c.show-2.ensures))
+returns-clause-states c = contradictory_states c.args.a.now c.show-3.result (contradictory_is c.args.a.now c.show-3.result (rw (c.new.ensures, c.of_constant.ensures) at c.show-3.ensures))
