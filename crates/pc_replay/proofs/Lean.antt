@@ -9,15 +9,14 @@ use Rattle.pc_rows.specs.Evidence.{Proof}
 use Rattle.pc_flow.specs.declared.what.What.{What}
 use Rattle.pc_flow.specs.declared.what.What.TheVariants.{Enter, Test, Set, Check}
 use Rattle.pc_flow.specs.Arc.{Arc}
-use Rattle.pc_flow.specs.Carry.{back_all, owes, test_rows}
+use Rattle.pc_flow.specs.Annotation.{rows_at}
+use Rattle.pc_flow.specs.Carry.{asked, back_all, owes, test_rows}
 use Rattle.pc_flow.specs.Flow.{Flow}
 use Rattle.pc_flow.proofs.Lists.{each_more}
 use Rattle.pc_certificate.specs.declared.certificate.Annotated.{Annotated}
 use Rattle.pc_certificate.specs.Certificate.{IsAnnotated, NamesPremises, IsLean, AreLean}
 use Rattle.pc_replay.specs.Accepts.{RowProved, EdgeProved, AlternativeProved}
-use Rattle.pc_replay.specs.Flaws.{asked}
 use Rattle.pc_replay.specs.Laws.{AcceptedIsLean}
-use Rattle.pc_replay.specs.Rule.{rows_at}
 use Rattle.pc_replay.specs.Shape.{IsShaped}
 
 -- what holds of pairs holds of their second parts
@@ -55,7 +54,7 @@ lean_by (Check own) rows source proofs few low count each =
     inr (seconds (λ (x : Linear × Proof). RowProved (Check own) (source ++ []) x.0 x.1) (NamesPremises ROWS) (names_few (Check own) source low) (own ++ rows) proofs (omega arith) each)
 
 lean_edge : (a : Annotated) → IsAnnotated a → (x : Arc × List Proof) → EdgeProved a x.0 x.1 → IsLean x.1
-lean_edge a kept x h = lean_by x.0.what (rows_at a x.0.to) (rows_at a x.0.from) x.1 (few_at a.rows x.0.to kept.rows) (few_at a.rows x.0.from kept.rows) h.count h.each
+lean_edge a kept x h = lean_by x.0.what (rows_at a.rows x.0.to) (rows_at a.rows x.0.from) x.1 (few_at a.rows x.0.to kept.rows) (few_at a.rows x.0.from kept.rows) h.count h.each
 
 lean_alternatives : (g : Flow) (points edges variables : ℕ) (as' : List Annotated) → edges ≡ length g.edges → AllByRecursion IsAnnotated as' → AllByRecursion (IsShaped points edges variables) as' → AllByRecursion (AlternativeProved g) as' → AllByRecursion AreLean as'
 lean_alternatives g points edges variables [] e kept shaped proved = tt
