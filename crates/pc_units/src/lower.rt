@@ -3,10 +3,10 @@
 ghost use Rattle.std.specs.Prelude.{◌≡◌, ◌<◌, length, IfOk};
 ghost use Rattle.pc_lower.specs.Annotation.{AreOver};
 
-use crate::shared::{COUNTING, Numbers, all_numbers, graph_of, need_of, row};
+use crate::shared::{COUNTING, Numbers, all_numbers, graph_of, need_of};
 use pc_graph::Graph;
 use pc_lower::{Annotation, CandidateFault, complete, no_rows, rows_at};
-use pc_rows::{Rows, variables_are_kept};
+use pc_rows::{Row, Rows};
 use pc_text::Text;
 use std::alloc::Global;
 use std::test::Fail;
@@ -85,16 +85,24 @@ fn what_is_refused_first_is_told(rt: HostRuntime) -> Result<(), Fail> {
     Ok(())
 }
 
+/// No rows at any head.
+fn no_heads(alloc: Global, graph: &Graph) -> Result<Annotation, Fail>
+    ensures long { IfOk result (λ heads. length heads ≡ length graph.now.points) }
+    ensures over { IfOk result (AreOver graph.now.variables) }
+{
+    Ok(no_rows(alloc, graph)?)
+}
+
 /// The row `-j + i + 4` at the head of the loop that counts, and no rows at other points.
 fn head(alloc: Global, graph: &Graph) -> Result<Annotation, Fail>
     requires { 2 < length graph.now.points }
     ensures long { IfOk result (λ heads. length heads ≡ length graph.now.points) }
     ensures over { IfOk result (AreOver graph.now.variables) }
 {
-    variables_are_kept();
+    let row = Row::of_constant(alloc, 4).with(0, -1).with(1, 1);
     let mut rows = Rows::new(alloc);
-    rows.push(row(alloc, [4, -1, 1, 0]).first(graph.variables()))?;
-    let mut heads = no_rows(alloc, graph)?;
+    rows.push(row.first(graph.variables()))?;
+    let mut heads = no_heads(alloc, graph)?;
     heads.set(2, rows);
     Ok(heads)
 }
