@@ -3,4 +3,5 @@ pub mod Lowering
 pub mod Drawn
 pub mod Rest
 pub mod Corresponds
+pub mod Marks
 pub mod Straight
