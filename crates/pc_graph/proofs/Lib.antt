@@ -6,6 +6,7 @@ pub mod Rules
 pub mod Bridge
 pub mod Marks
 pub mod Loops
+pub mod Places
 pub mod Ready
 pub mod Growing
 pub mod Drawing

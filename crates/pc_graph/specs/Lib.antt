@@ -4,4 +4,5 @@ pub mod Drawn
 pub mod Rest
 pub mod Corresponds
 pub mod Marks
+pub mod Places
 pub mod Straight

@@ -2,6 +2,7 @@
 
 ghost use Rattle.pc_graph.specs.Corresponds.{StepsCorrespond};
 ghost use Rattle.pc_graph.specs.Marks.{LoopsAreMarked};
+ghost use Rattle.pc_graph.specs.Places.{PlacesAreTheirs};
 ghost use Rattle.pc_graph.specs.Straight.{GraphsAreKept, LoopsHaveTheirHeads, StraightIsLoopFree, StraightGraphs, LoopFreeGraphs, PaidProgramsAreSafe, OwedIsViolated};
 
 /// A program and its graph take the same steps.
@@ -23,6 +24,11 @@ pub fn loops_have_their_heads()
 /// the loop's body or past it, as their marks say, and no other edge is marked.
 pub fn loops_are_marked()
     ensures { LoopsAreMarked }
+{}
+
+/// The entry and the start have the place of the program, and each other point that of the statement that made it.
+pub fn places_are_theirs()
+    ensures { PlacesAreTheirs }
 {}
 
 /// A program without loops, assumptions and tests but `*` has no loops.
