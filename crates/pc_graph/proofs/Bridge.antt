@@ -129,7 +129,7 @@ module _ (g : List Arc) (ρ : ℕ → List Stmt) (s0 : State) where
 -- ---- of a program
 
 -- the lists of the points are found by their places
-holds_from : (ρ : ℕ → List Stmt) (xs : List (List Stmt)) (m : ℕ) → ((i : ℕ) → ρ (m + i) ≡ get_or xs i []) → Holds ρ m xs
+pub holds_from : (ρ : ℕ → List Stmt) (xs : List (List Stmt)) (m : ℕ) → ((i : ℕ) → ρ (m + i) ≡ get_or xs i []) → Holds ρ m xs
 holds_from ρ [] m h = tt
 holds_from ρ (x ∷ xs) m h =
     let z : m + 0 ≡ m = omega arith in (

@@ -30,7 +30,7 @@ pub points-length : (loops : List Loop) (b : ℕ) (places : List Place) → leng
 points-length loops b [] = refl
 points-length loops b (place ∷ places) = let h = points-length loops (b + 1) places in omega arith
 
-head_point : (loops : List Loop) (b : ℕ) (places : List Place) (q k : ℕ) → k ≡ b + q → q < length places → HeadIn loops k → IsHead (points_from loops b places) q
+pub head_point : (loops : List Loop) (b : ℕ) (places : List Place) (q k : ℕ) → k ≡ b + q → q < length places → HeadIn loops k → IsHead (points_from loops b places) q
 head_point loops b [] q k e lt h = absurd (omega arith)
 head_point loops b (place ∷ places) zero k e lt h = let e' : k ≡ b = omega arith in subst (HeadIn loops) e' h
 head_point loops b (place ∷ places) (suc q) k e lt h = head_point loops (b + 1) places q k (omega arith) (omega arith) h

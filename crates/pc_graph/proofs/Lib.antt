@@ -4,6 +4,9 @@ pub mod Tied
 pub mod Pieces
 pub mod Rules
 pub mod Bridge
+pub mod Marks
+pub mod Loops
+pub mod Places
 pub mod Ready
 pub mod Growing
 pub mod Drawing

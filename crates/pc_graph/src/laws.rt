@@ -1,6 +1,8 @@
 //! What the graphs of programs promise, as contracts of functions that do nothing.
 
 ghost use Rattle.pc_graph.specs.Corresponds.{StepsCorrespond};
+ghost use Rattle.pc_graph.specs.Marks.{LoopsAreMarked};
+ghost use Rattle.pc_graph.specs.Places.{PlacesAreTheirs};
 ghost use Rattle.pc_graph.specs.Straight.{GraphsAreKept, LoopsHaveTheirHeads, StraightIsLoopFree, StraightGraphs, LoopFreeGraphs, PaidProgramsAreSafe, OwedIsViolated};
 
 /// A program and its graph take the same steps.
@@ -16,6 +18,17 @@ pub fn graphs_are_kept()
 /// No two loops of a program share a head.
 pub fn loops_have_their_heads()
     ensures { LoopsHaveTheirHeads }
+{}
+
+/// A loop of the program begins at each head of its graph, with the rows that the loop tries; the edges from the head lead into
+/// the loop's body or past it, as their marks say, and no other edge is marked.
+pub fn loops_are_marked()
+    ensures { LoopsAreMarked }
+{}
+
+/// The entry and the start have the place of the program, and each other point that of the statement that made it.
+pub fn places_are_theirs()
+    ensures { PlacesAreTheirs }
 {}
 
 /// A program without loops, assumptions and tests but `*` has no loops.
