@@ -26,9 +26,9 @@ use Rattle.pc_cert.specs.CertificateTexts.{IsTextOf}
 use Rattle.pc_cert.specs.Lengths.{text_bytes}
 use Rattle.pc_cert.proofs.ShortTexts.{texts_are_short}
 use Rattle.pc_cert.proofs.WholeReading.{each_of}
+use Rattle.pc_flow.specs.Annotation.{rows_at}
 use Rattle.pc_flow.proofs.Lists.{each_more}
 use Rattle.pc_replay.specs.Accepts.{Accepts, AlternativeProved}
-use Rattle.pc_replay.specs.Rule.{rows_at}
 use Rattle.pc_replay.specs.Shape.{IsShaped}
 use Rattle.pc_replay.proofs.Lean.{accepted_is_lean}
 use Rattle.pc_app.proofs.Programs.{accepted_programs_are_safe}
@@ -57,7 +57,7 @@ each_mapped P f (x ∷ xs) h = (h.0, each_mapped P f xs h.1)
 
 -- ---- the rows of the entry
 
-entry_is : (a : Annotated) → rows_at a 0 ≡ entry_rows a.rows
+entry_is : (a : Annotated) → rows_at a.rows 0 ≡ entry_rows a.rows
 entry_is a = by a.rows
   where
     by : (rows : List (List Linear)) → get_or rows 0 [] ≡ entry_rows rows

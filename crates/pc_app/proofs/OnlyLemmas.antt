@@ -37,7 +37,6 @@ graph_of c =
       variables = length c.names.names;
       points = points_from a.loops 0 (c.place ∷ c.place ∷ a.places);
       edges = arc 0 1 (Enter c.names.params) ∷ a.edges;
-      bodies = false ∷ a.bodies;
     }
 
 same_bytes : (held : Holding) (a b : Bytes) → held ≢ Untold → MayHold held a → MayHold held b → a ≡ b
