@@ -73,7 +73,7 @@ says p c accepts =
     each_of (IsShaped c.points c.edges c.variables) (AlternativeProved (graph p)) (SaysOf (length p.names.names))
     (λ a shaped proved.
     let long = shaped.rows ∙ accepts.shape.points in
-    let over = each_more (IsOver p.names.params) (IsOver (length p.names.names)) (wider p.names.params (length p.names.names) (few_params p p.sane)) (rows_at a 0) proved.entry in
+    let over = each_more (IsOver p.names.params) (IsOver (length p.names.names)) (wider p.names.params (length p.names.names) (few_params p p.sane)) (rows_at a.rows 0) proved.entry in
     (omega arith, All-from_recursion (IsOver (length p.names.names)) (entry_rows a.rows) (subst (λ (rows : List Linear). AllByRecursion (IsOver (length p.names.names)) rows) (entry_is a) over)))
     c.alternatives accepts.shape.each accepts.each
 
