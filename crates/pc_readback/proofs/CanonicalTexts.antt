@@ -40,7 +40,7 @@ use Rattle.pc_readback.specs.Showable.{is_name, is_literal, has_literals, litera
 use Rattle.pc_program.proofs.Exprs.{by_cases}
 use Rattle.pc_readback.proofs.PieceLexemes.{is_stop, IsStop, is_mark, is_open, IsApart, AreApart}
 use Rattle.pc_readback.proofs.PieceSymbols.{lexes}
-use Rattle.pc_program.proofs.Results.{and_is}
+use Rattle.pc_program.proofs.Results.{and_is, and_of}
 use Rattle.pc_program.proofs.Stmts.{by_stmt, all_by}
 
 -- ---- pieces that are put together
@@ -437,13 +437,10 @@ closed_locals (w ∷ ws) h r =
           (closed_join (names_pieces (w ∷ ws)) end (nice_names (w ∷ ws) h) (λ r. semicolon) (λ r. sign terminal.Semicolon (LineEnd ∷ []) r refl refl (tt, tt)) r),
     )
 
-both_true : (a b : Bool) → a ≡ true → b ≡ true → (a && b) ≡ true
-both_true a b h g = rw (h, g) refl
-
 names_first : (k : ℕ) (ws : List Bytes) → list_all is_name ws ≡ true → list_all is_name (take k ws) ≡ true
 names_first zero ws h = refl
 names_first (suc k) [] h = refl
-names_first (suc k) (w ∷ ws) h = let a = and_is (is_name w) (list_all is_name ws) h in both_true (is_name w) (list_all is_name (take k ws)) a.0 (names_first k ws a.1)
+names_first (suc k) (w ∷ ws) h = let a = and_is (is_name w) (list_all is_name ws) h in and_of (is_name w) (list_all is_name (take k ws)) a.0 (names_first k ws a.1)
 
 names_rest : (k : ℕ) (ws : List Bytes) → list_all is_name ws ≡ true → list_all is_name (drop k ws) ≡ true
 names_rest zero ws h = h

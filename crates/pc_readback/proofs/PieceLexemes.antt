@@ -16,13 +16,14 @@ use Rattle.pc_text.specs.Numerals.{numeral, IsNumeral, integer_of}
 use Rattle.pc_text.specs.Lexemes.{class, in_word, in_number, is_letter_or_digit, is_digit, is_keyword, EachPasses, HasForm, Lexeme, Leads, IsSplit, Fits, AllFit}
 use Rattle.pc_text.specs.Longest.{run, longest, pair_or}
 use Rattle.pc_text.proofs.LongestLemmas.{AtLeast, bounds, lexeme}
-use Rattle.pc_text.proofs.NumeralTexts.{numeral_is, integer_numeral}
+use Rattle.pc_text.proofs.NumeralTexts.{numeral_is, integer_numeral, digit_class}
+use Rattle.pc_text.proofs.NumeralWords.{each_passes}
 use Rattle.pc_language.specs.declared.terminal.Terminal.{Terminal}
 use Rattle.pc_language.specs.declared.terminal.Terminal.TheVariants as terminal
 use Rattle.pc_rows.specs.Linear.{in_range}
 use Rattle.pc_show.specs.Pieces.{Piece, Blank, LineEnd, Mark, Name, Number, blanks, spelling, spelled, bytes_of}
 use Rattle.pc_readback.specs.Showable.{is_letter, is_word, is_name, is_literal}
-use Rattle.pc_program.proofs.Results.{and_is}
+use Rattle.pc_program.proofs.Results.{and_is, not_true}
 
 -- ---- what stands behind a piece
 
@@ -264,13 +265,9 @@ letter_is Bang e = cc
 letter_is Ampersand e = cc
 letter_is Other e = cc
 
-passes_each : (p : ℕ → Bool) (w : Bytes) → list_all p w ≡ true → EachPasses p w
-passes_each p [] h = tt
-passes_each p (b ∷ w) h = let x = and_is (p b) (list_all p w) h in (x.0, passes_each p w x.1)
-
 word_form : (w : Bytes) → is_word w ≡ true → HasForm form.Word w
 word_form [] h = cc
-word_form (b ∷ w) h = let x = and_is (is_letter (class b)) (list_all in_word w) h in (letter_is (class b) x.0, passes_each in_word w x.1)
+word_form (b ∷ w) h = let x = and_is (is_letter (class b)) (list_all in_word w) h in (letter_is (class b) x.0, each_passes in_word w x.1)
 
 -- what a name keeps
 pub record Named (w : Bytes) : Type 0 where
@@ -278,26 +275,18 @@ pub record Named (w : Bytes) : Type 0 where
   pub short : length w ≤ NAME_BYTES
   pub free : is_keyword w ≡ false
 
-no_keyword : (b : Bool) → not b ≡ true → b ≡ false
-no_keyword true e = cc
-no_keyword false e = refl
-
 pub named : (w : Bytes) → is_name w ≡ true → Named w
 named w h =
     let x = and_is (is_word w) (nat_le (length w) NAME_BYTES && not (is_keyword w)) h in
     let y = and_is (nat_le (length w) NAME_BYTES) (not (is_keyword w)) x.1 in
     let l : nat_le (length w) NAME_BYTES ≡ true = y.0 in
-    record { word = word_form w x.0; short = grind (arith, nat_tests); free = no_keyword (is_keyword w) y.1 }
+    record { word = word_form w x.0; short = grind (arith, nat_tests); free = not_true (is_keyword w) y.1 }
 
 -- what the numeral of a literal keeps
 pub record Written (z : ℤ) : Type 0 where
   pub number : HasForm form.Number (numeral z)
   pub value : pos (natural_of (numeral z)) ≡ z
   pub small : natural_of (numeral z) ≤ LARGEST
-
-digit_first : (b : ℕ) → 48 ≤ b → b ≤ 57 → class b ≡ Digit
-unfolding class
-digit_first b low high = grind (arith, nat_tests)
 
 -- a numeral that is no sign and a number behind it
 number_is : (w v : Bytes) → IsNumeral w → w ≡ v → ((u : Bytes) → v ≡ 45 ∷ u → ⊥) → HasForm form.Number v × (pos (natural_of v) ≡ integer_of v)
@@ -308,7 +297,7 @@ number_is (b ∷ w) v (inr (inl h)) f free =
     let low = h.0 in
     let high = h.1 in
     let other : nat_eq b 45 ≡ false = grind (arith, nat_tests) in
-    subst (λ (x : Bytes). HasForm form.Number x × (pos (natural_of x) ≡ integer_of x)) f ((digit_first b (omega arith) high, h.2), rw other refl)
+    subst (λ (x : Bytes). HasForm form.Number x × (pos (natural_of x) ≡ integer_of x)) f ((digit_class b (omega arith) high, h.2), rw other refl)
 number_is w v (inr (inr (u, e, h))) f free = absurd (free u (sym f ∙ e))
 
 signless_by : (t : Bool) (ds : List ℕ) (u : Bytes) → cond t (48 ∷ []) (map (λ d. 48 + d) ds) ≡ 45 ∷ u → ⊥

@@ -18,7 +18,7 @@ use Rattle.pc_readback.specs.Matched.{AreOf}
 use Rattle.pc_readback.proofs.PieceLexemes.{is_mark, is_word_mark, form_of, lexemes_of_piece, lexemes_of, IsApart, AreApart, named, written, pieces_split, pieces_fit}
 
 -- a front of a text, and what stands behind it
-slice_is : (front w rest : Bytes) (at : ℕ) → length front ≡ at → slice_range (front ++ (w ++ rest)) at (at + length w) ≡ w
+pub slice_is : (front w rest : Bytes) (at : ℕ) → length front ≡ at → slice_range (front ++ (w ++ rest)) at (at + length w) ≡ w
 slice_is front w rest at e =
     let count : at + length w - at ≡ length w = omega arith in
     ap (λ (n : ℕ). take n (drop at (front ++ (w ++ rest)))) count ∙ ap (take (length w)) (drop_at front (w ++ rest) at e) ∙ take_at w rest (length w) refl

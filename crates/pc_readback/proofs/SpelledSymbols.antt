@@ -14,12 +14,14 @@ use Rattle.pc_text.specs.declared.token.TheConstants.{LARGEST, NAME_BYTES}
 use Rattle.pc_text.specs.declared.lexeme.Form.{Form}
 use Rattle.pc_text.specs.declared.lexeme.Form.TheVariants as form
 use Rattle.pc_text.specs.Answers.{Means}
+use Rattle.pc_text.proofs.NumeralWords.{all_pass}
 use Rattle.pc_grammar.specs.Symbols.{keyword_of, byte_sign, pair_sign, sign_of, terminal_of, value_of, symbol_of, symbols_of}
 use Rattle.pc_language.specs.declared.terminal.Terminal.{Terminal}
 use Rattle.pc_language.specs.declared.terminal.Terminal.TheVariants as terminal
 use Rattle.pc_grammar.specs.Terminals.{has}
 use Rattle.pc_readback.specs.Showable.{is_letter, is_word, is_name, is_literal}
 use Rattle.pc_program.proofs.Results.{and_of, at_most}
+use Rattle.pc_readback.proofs.PieceSymbols.{slice_is}
 use Rattle.pc_readback.proofs.SeenExprs.{spelled}
 
 -- ---- keywords and signs are no names
@@ -56,13 +58,9 @@ sign_is_no_name (b ∷ c ∷ w) = pair_is_no_name (b ∷ c ∷ w)
 
 -- ---- words that are names
 
-each_passes : (p : ℕ → Bool) (w : Bytes) → EachPasses p w → list_all p w ≡ true
-each_passes p [] h = refl
-each_passes p (b ∷ w) h = and_of (p b) (list_all p w) h.0 (each_passes p w h.1)
-
 word_is : (w : Bytes) → HasForm form.Word w → is_word w ≡ true
 word_is [] h = absurd h
-word_is (b ∷ w) h = and_of (is_letter (class b)) (list_all in_word w) (ap is_letter h.0) (each_passes in_word w h.1)
+word_is (b ∷ w) h = and_of (is_letter (class b)) (list_all in_word w) (ap is_letter h.0) (all_pass in_word w h.1)
 
 name_is : (w : Bytes) → HasForm form.Word w → length w ≤ NAME_BYTES → is_keyword w ≡ false → is_name w ≡ true
 name_is w h l k = and_of (is_word w) (nat_le (length w) NAME_BYTES && not (is_keyword w)) (word_is w h) (and_of (nat_le (length w) NAME_BYTES) (not (is_keyword w)) (at_most (length w) NAME_BYTES l) (ap not k))
@@ -71,12 +69,6 @@ literal_is : (n : ℕ) → n ≤ LARGEST → is_literal (pos n) ≡ true
 literal_is n h = grind (arith, nat_tests)
 
 -- ---- the symbols of a text
-
--- a front of a text, and what stands behind it
-slice_is : (front w rest : Bytes) (at : ℕ) → length front ≡ at → slice_range (front ++ (w ++ rest)) at (at + length w) ≡ w
-slice_is front w rest at e =
-    let count : at + length w - at ≡ length w = omega arith in
-    ap (λ (n : ℕ). take n (drop at (front ++ (w ++ rest)))) count ∙ ap (take (length w)) (drop_at front (w ++ rest) at e) ∙ take_at w rest (length w) refl
 
 module _ (src : Bytes) where
   -- the symbol of a token with its text
