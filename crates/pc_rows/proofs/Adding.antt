@@ -1,12 +1,12 @@
--- Sums that are made term by term: what is made and what is still to come.
-use Rattle.std.proofs.Common.{◌≡◌, ℕ, ◌+◌, ◌<◌, ℤ, pos, negsuc, ◌+ℤ◌, ◌-ℤ◌, ◌*ℤ◌, ◌≤ℤ◌, refl, sym, subst, ap, ◌∙◌, arith, List, ◌∷◌, length, get_or, drop, slice_get, Some}
+-- Totals that are made part by part: what is made and what is still to come.
+use Rattle.std.proofs.Common.{◌≡◌, ℕ, ◌+◌, ◌<◌, ℤ, pos, negsuc, ◌-ℤ◌, ◌*ℤ◌, ◌≤ℤ◌, sym, subst, ap, ◌∙◌, arith, List, ◌∷◌, length, get_or, drop, slice_get, Some}
 use Rattle.std.proofs.lemmas.Int.{ints}
 use Rattle.std.proofs.lemmas.List.{drop_more}
 use Rattle.std.proofs.lemmas.Option.{slice_get_within, get_or_from_slice_get}
 use Rattle.pc_rows.specs.declared.proof.Part.{Part}
-use Rattle.pc_rows.specs.Linear.{Linear, InRange, IsInRange, dot, sum_of, scaled_by}
-use Rattle.pc_rows.specs.Points.{SumsFit}
+use Rattle.pc_rows.specs.Linear.{Linear, sum_of, scaled_by}
 use Rattle.pc_rows.specs.Shows.{nothing_row, with_parts, PartsFit}
+use Rattle.pc_rows.specs.Totals.{TimesFits}
 use Rattle.pc_rows.proofs.Ring.{mul_add, add_mul, product_not_negative}
 
 pub drop_at : {A : Type 0} (xs : List A) (i : ℕ) (x : A) → i < length xs → x ≡ get_or xs i x → drop i xs ≡ x ∷ drop (i + 1) xs
@@ -14,19 +14,6 @@ drop_at xs i x lt e = drop_more xs i x lt ∙ ap (λ z. z ∷ drop (i + 1) xs) (
 
 pub drop_got : {A : Type 0} (xs : List A) (i : ℕ) (x : A) → slice_get xs i ≡ Some x → drop i xs ≡ x ∷ drop (i + 1) xs
 drop_got xs i x e = drop_at xs i x (slice_get_within xs i x e) (sym (get_or_from_slice_get xs i x x e))
-
--- a product is added
-module _ (as' bs more more' : List ℤ) (x y sum new : ℤ) (at : as' ≡ x ∷ more) (at' : bs ≡ y ∷ more') (is : new ≡ sum +ℤ x *ℤ y) where
-  pub dot_goes_on : (goal : ℤ) → sum +ℤ dot as' bs ≡ goal → new +ℤ dot more more' ≡ goal
-  dot_goes_on goal h =
-      let e : dot as' bs ≡ x *ℤ y +ℤ dot more more' = rw (at, at') refl in
-      omega (arith, ints)
-
-  pub sums_fit_on : SumsFit sum as' bs → SumsFit new more more'
-  sums_fit_on h = rw is ((rw (at, at') at h).2)
-
-  pub sums_fit_back : InRange (x *ℤ y) → InRange (sum +ℤ x *ℤ y) → SumsFit new more more' → SumsFit sum as' bs
-  sums_fit_back f g h = rw (at, at') ((f, g, rw is at h))
 
 -- a part is added
 module _ (premises : List Linear) (ps more : List Part) (p : Part) (r sum new : Linear) (at : ps ≡ p ∷ more) (got : slice_get premises p.index ≡ Some r) where
@@ -38,24 +25,21 @@ module _ (premises : List Linear) (ps more : List Part) (p : Part) (r sum new : 
       ap (λ (z : Linear). with_parts premises z more) (is ∙ ap (λ (z : Linear). sum_of sum (scaled_by p.multiplier z)) (sym named))
       ∙ ap (λ (z : List Part). with_parts premises sum z) (sym at) ∙ h
 
-  abbrev pub PartFits : Type 0
-  PartFits = IsInRange (scaled_by p.multiplier r) × IsInRange (sum_of sum (scaled_by p.multiplier r))
-
-  opened : PartsFit premises sum ps → PartFits × PartsFit premises (sum_of sum (scaled_by p.multiplier r)) more
+  opened : PartsFit premises sum ps → TimesFits sum p.multiplier r × PartsFit premises (sum_of sum (scaled_by p.multiplier r)) more
   opened h =
       let g = subst (λ (z : List Part). PartsFit premises sum z) at h in
-      subst (λ (z : Linear). (IsInRange (scaled_by p.multiplier z) × IsInRange (sum_of sum (scaled_by p.multiplier z))) × PartsFit premises (sum_of sum (scaled_by p.multiplier z)) more) named ((g.0, g.1), g.2)
+      subst (λ (z : Linear). TimesFits sum p.multiplier z × PartsFit premises (sum_of sum (scaled_by p.multiplier z)) more) named ((g.0, g.1), g.2)
 
-  pub part_fits : PartsFit premises sum ps → PartFits
+  pub part_fits : PartsFit premises sum ps → TimesFits sum p.multiplier r
   part_fits h = (opened h).0
 
   pub parts_fit_on : new ≡ sum_of sum (scaled_by p.multiplier r) → PartsFit premises sum ps → PartsFit premises new more
   parts_fit_on is h = subst (λ (z : Linear). PartsFit premises z more) (sym is) (opened h).1
 
-  pub parts_fit_back : new ≡ sum_of sum (scaled_by p.multiplier r) → PartFits → PartsFit premises new more → PartsFit premises sum ps
+  pub parts_fit_back : new ≡ sum_of sum (scaled_by p.multiplier r) → TimesFits sum p.multiplier r → PartsFit premises new more → PartsFit premises sum ps
   parts_fit_back is f h =
       let g = subst (λ (z : Linear). PartsFit premises z more) is h in
-      let k = subst (λ (z : Linear). (IsInRange (scaled_by p.multiplier z) × IsInRange (sum_of sum (scaled_by p.multiplier z))) × PartsFit premises (sum_of sum (scaled_by p.multiplier z)) more) (sym named) (f, g) in
+      let k = subst (λ (z : Linear). TimesFits sum p.multiplier z × PartsFit premises (sum_of sum (scaled_by p.multiplier z)) more) (sym named) (f, g) in
       subst (λ (z : List Part). PartsFit premises sum z) (sym at) (k.0.0, k.0.1, k.1)
 
 pub at_least_one : (a b : ℤ) → pos 1 ≤ℤ a → pos 1 ≤ℤ b → pos 1 ≤ℤ (a *ℤ b)

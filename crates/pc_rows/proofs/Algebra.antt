@@ -1,5 +1,5 @@
 -- Sums and multiples of lists of numbers and of rows, as equations.
-use Rattle.std.proofs.Common.{◌≡◌, ℕ, zero, suc, ℤ, pos, ◌+ℤ◌, ◌*ℤ◌, refl, sym, ap, ◌∙◌, arith, List, [], ◌∷◌, length, get_or}
+use Rattle.std.proofs.Common.{◌≡◌, ℕ, zero, suc, ℤ, pos, ◌+ℤ◌, ◌*ℤ◌, neg_ℤ, refl, sym, ap, ap₂, ◌∙◌, arith, List, [], ◌∷◌, length, get_or, replicate}
 use Rattle.std.proofs.lemmas.Int.{ints}
 use Rattle.std.proofs.Math.IntN.{*ℤ-zero, +ℤ_idl, +ℤ_idr}
 use Rattle.pc_rows.specs.Linear.{Linear, add_lists, scale_list, negate_list, sum_of, scaled_by}
@@ -55,6 +55,22 @@ pub get_or-scale_list : (e : ℤ) (s : List ℤ) (k : ℕ) → get_or (scale_lis
 get_or-scale_list e [] k = sym (*ℤ-zero e)
 get_or-scale_list e (x ∷ s) zero = refl
 get_or-scale_list e (x ∷ s) (suc k) = get_or-scale_list e s k
+
+pub get_or-negate_list : (a : List ℤ) (k : ℕ) → get_or (negate_list a) k (pos 0) ≡ neg_ℤ (get_or a k (pos 0))
+get_or-negate_list [] k = refl
+get_or-negate_list (a ∷ as') zero = refl
+get_or-negate_list (a ∷ as') (suc k) = get_or-negate_list as' k
+
+pub get_or-zeros : (n k : ℕ) → get_or (replicate n (pos 0)) k (pos 0) ≡ pos 0
+get_or-zeros zero k = refl
+get_or-zeros (suc n) zero = refl
+get_or-zeros (suc n) (suc k) = get_or-zeros n k
+
+pub add_zeros : (n : ℕ) (a : List ℤ) → length a ≡ n → add_lists (replicate n (pos 0)) a ≡ a
+add_zeros zero [] e = refl
+add_zeros zero (a ∷ as') e = absurd (omega arith)
+add_zeros (suc n) [] e = absurd (omega arith)
+add_zeros (suc n) (a ∷ as') e = ap₂ (λ x xs. x ∷ xs) (+ℤ_idl a) (add_zeros n as' (omega arith))
 
 pub length-add_lists : (a b : List ℤ) → length a ≡ length b → length (add_lists a b) ≡ length a
 length-add_lists [] b e = sym e

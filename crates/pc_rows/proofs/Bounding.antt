@@ -1,5 +1,5 @@
 -- Rows whose numbers are small: what is made of them is in range.
-use Rattle.std.proofs.Common.{ℕ, zero, suc, ◌+◌, ◌*◌, ◌^◌, ◌<◌, ◌≤◌, ℤ, pos, ◌+ℤ◌, ◌*ℤ◌, neg_ℤ, arith, List, [], ◌∷◌, get_or, set, Bool, true, false, cond, Option, Some, None}
+use Rattle.std.proofs.Common.{ℕ, zero, suc, ◌+◌, ◌*◌, ◌^◌, ◌<◌, ◌≤◌, ℤ, pos, ◌+ℤ◌, ◌*ℤ◌, neg_ℤ, arith, List, [], ◌∷◌, get_or, set, replicate, Bool, true, false, cond, Option, Some, None}
 use Rattle.std.specs.Prelude.{int_lt, unsigned_abs}
 use Rattle.std.specs.Bool.{MatchBool}
 use Rattle.std.proofs.lemmas.Int.{ints, unsigned_abs-mul}
@@ -51,6 +51,10 @@ add_within m n (a ∷ as') (b ∷ bs) h g = (sum_within m n a b h.0 g.0, add_wit
 pub negate_within : (m : ℕ) (zs : List ℤ) → AreWithin m zs → AreWithin m (negate_list zs)
 negate_within m [] h = tt
 negate_within m (z ∷ zs) h = (opposite_within m z h.0, negate_within m zs h.1)
+
+pub zeros_within : (m n : ℕ) → AreWithin m (replicate n (pos 0))
+zeros_within m zero = tt
+zeros_within m (suc n) = (omega (arith, ints), zeros_within m n)
 
 pub at_within : (m : ℕ) (zs : List ℤ) (k : ℕ) → AreWithin m zs → IsWithin m (get_or zs k (pos 0))
 at_within m [] k h = omega (arith, ints)

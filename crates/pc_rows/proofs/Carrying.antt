@@ -1,6 +1,7 @@
 -- A state meets a row carried back over an assignment exactly where all its successors meet the row.
 use Rattle.std.proofs.Common.{◌≡◌, ℕ, zero, suc, ◌<◌, ℤ, pos, negsuc, ◌+ℤ◌, ◌-ℤ◌, ◌*ℤ◌, refl, sym, ap, subst, ◌∙◌, arith, ◌≤ℤ◌, List, [], ◌∷◌, length, get_or, set, Bool, true, false, cond, Option, Some, None}
-use Rattle.std.specs.Prelude.{◌↔◌, ◌+◌, ◌≤◌, ◌<ℤ◌, ◌||◌, int_lt, unsigned_abs, slice_set}
+use Rattle.std.specs.Prelude.{◌↔◌, ◌+◌, ◌≤◌, ◌<ℤ◌, int_lt, unsigned_abs, slice_set}
+use Rattle.std.proofs.lemmas.Bool.{or_parts}
 use Rattle.std.proofs.lemmas.Bool.Decides.{nat_tests}
 use Rattle.std.proofs.lemmas.Int.{ints}
 use Rattle.std.proofs.Math.IntN.{zero-*ℤ}
@@ -34,10 +35,6 @@ moved_value r form x c s h =
 
 -- tests of the ends
 
-or_is_false : (b c : Bool) → (b || c) ≡ false → (b ≡ false) × (c ≡ false)
-or_is_false true c h = absurd cc
-or_is_false false c h = (refl, h)
-
 -- the lesser product is a least
 lesser_le : (a lo hi c : ℤ) → lo ≤ℤ c → c ≤ℤ hi → lesser (a *ℤ lo) (a *ℤ hi) ≤ℤ (a *ℤ c)
 lesser_le (pos n) lo hi c p q = let g = mul_le n lo c p in let g' = mul_le n c hi q in grind (arith, ints)
@@ -51,7 +48,7 @@ not_high a z e = grind (arith, ints, nat_tests)
 
 none_is_open : (a : ℤ) → is_zero a ≡ false → needs_open_end a None None ≡ false → ⊥
 none_is_open a z e =
-    let both = or_is_false (int_lt (pos 0) a) (int_lt a (pos 0)) e in
+    let both = or_parts (int_lt (pos 0) a) (int_lt a (pos 0)) e in
     let h = not_low a z both.0 in
     let g = not_high a z both.1 in
     omega (arith, ints)
@@ -62,7 +59,7 @@ least_le : (a : ℤ) (lo hi : Option ℤ) (c : ℤ) → is_zero a ≡ false → 
 least_le a (Some lo) (Some hi) c z e p q = lesser_le a lo hi c p q
 least_le (pos n) (Some lo) None c z e p q = mul_le n lo c p
 least_le (negsuc n) (Some lo) None c z e p q = absurd cc
-least_le (pos n) None (Some hi) c z e p q = absurd (let h = not_low (pos n) z (or_is_false (int_lt (pos 0) (pos n)) false e).0 in omega (arith, ints))
+least_le (pos n) None (Some hi) c z e p q = absurd (let h = not_low (pos n) z (or_parts (int_lt (pos 0) (pos n)) false e).0 in omega (arith, ints))
 least_le (negsuc n) None (Some hi) c z e p q = mul_neg_left n c hi q
 least_le a None None c z e p q = absurd (none_is_open a z e)
 

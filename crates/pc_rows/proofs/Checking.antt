@@ -1,52 +1,45 @@
 -- Proofs that are checked by multiplication.
-use Rattle.std.proofs.Common.{◌≡◌, ℕ, ◌<◌, pos, ◌≤ℤ◌, negsuc, ◌∙◌, sym, subst, arith, List, [], ◌∷◌, length, Bool, true, false, refl}
+use Rattle.std.proofs.Common.{◌≡◌, ℕ, ◌<◌, pos, ◌≤ℤ◌, negsuc, ◌∙◌, sym, subst, List, [], ◌∷◌, length, Bool, true, false, refl}
 use Rattle.std.specs.Prelude.{◌↔◌, nat_lt, int_le}
 use Rattle.std.specs.List.{list_all, AllByRecursion}
-use Rattle.std.proofs.lemmas.Bool.Decides.{nat_tests}
+use Rattle.std.proofs.lemmas.Bool.{and_from, and_parts, lt-ltb, ltb-true}
 use Rattle.pc_rows.specs.declared.proof.Part.{Part}
 use Rattle.pc_rows.specs.Linear.{Linear, is_number}
 use Rattle.pc_rows.specs.Evidence.{Proof}
 use Rattle.pc_rows.specs.Shows.{total, TotalFits, Shows}
 use Rattle.pc_rows.specs.Checks.{is_usable, are_usable, IsNever, is_never, IsContradiction}
-use Rattle.pc_rows.proofs.Ranges.{and_is}
-use Rattle.pc_rows.proofs.Joining.{and_both, le_is, is_le, number_is_meant}
+use Rattle.pc_rows.proofs.Joining.{le_is, is_le, number_is_meant}
 
 never_is : (r : Linear) → is_never r ≡ true → IsNever r
 never_is r h =
-    let b = and_is (is_number r) (int_le r.constant (negsuc 0)) h in
+    let b = and_parts (is_number r) (int_le r.constant (negsuc 0)) h in
     ((number_is_meant r).0 b.0, le_is r.constant (negsuc 0) b.1)
 
 is_never_test : (r : Linear) → IsNever r → is_never r ≡ true
-is_never_test r h = and_both (is_number r) (int_le r.constant (negsuc 0)) ((number_is_meant r).1 h.0) (is_le r.constant (negsuc 0) h.1)
+is_never_test r h = and_from (is_number r) (int_le r.constant (negsuc 0)) ((number_is_meant r).1 h.0) (is_le r.constant (negsuc 0) h.1)
 
 -- what the test of the parts says
 record AreParts (count : ℕ) (ps : List Part) : Type 0 where
   multipliers : AllByRecursion (λ q. pos 0 ≤ℤ q.multiplier) ps
   indices : AllByRecursion (λ q. q.index < count) ps
 
-below_is : (i n : ℕ) → nat_lt i n ≡ true → i < n
-below_is i n h = grind (arith, nat_tests)
-
-is_below : (i n : ℕ) → i < n → nat_lt i n ≡ true
-is_below i n h = grind (arith, nat_tests)
-
 parts_are : (count : ℕ) (ps : List Part) → list_all (is_usable count) ps ≡ true → AreParts count ps
 parts_are count [] h = record { multipliers = tt; indices = tt }
 parts_are count (p ∷ ps) h =
-    let b = and_is (is_usable count p) (list_all (is_usable count) ps) h in
-    let t = and_is (nat_lt p.index count) (int_le (pos 0) p.multiplier) b.0 in
+    let b = and_parts (is_usable count p) (list_all (is_usable count) ps) h in
+    let t = and_parts (nat_lt p.index count) (int_le (pos 0) p.multiplier) b.0 in
     let more = parts_are count ps b.1 in
-    record { multipliers = (le_is (pos 0) p.multiplier t.1, more.multipliers); indices = (below_is p.index count t.0, more.indices) }
+    record { multipliers = (le_is (pos 0) p.multiplier t.1, more.multipliers); indices = (ltb-true p.index count t.0, more.indices) }
 
 are_parts : (count : ℕ) (ps : List Part) → AllByRecursion (λ q. pos 0 ≤ℤ q.multiplier) ps → AllByRecursion (λ q. q.index < count) ps → list_all (is_usable count) ps ≡ true
 are_parts count [] h g = refl
-are_parts count (p ∷ ps) h g = and_both (is_usable count p) (list_all (is_usable count) ps)
-    (and_both (nat_lt p.index count) (int_le (pos 0) p.multiplier) (is_below p.index count g.0) (is_le (pos 0) p.multiplier h.0))
+are_parts count (p ∷ ps) h g = and_from (is_usable count p) (list_all (is_usable count) ps)
+    (and_from (nat_lt p.index count) (int_le (pos 0) p.multiplier) (lt-ltb p.index count g.0) (is_le (pos 0) p.multiplier h.0))
     (are_parts count ps h.1 g.1)
 
 usable : (count : ℕ) (p : Proof) (t : Bool) → t ≡ are_usable count p → t ≡ true → (pos 0 ≤ℤ p.goal) × AreParts count p.parts
 usable count p t is h =
-    let b = and_is (int_le (pos 0) p.goal) (list_all (is_usable count) p.parts) (sym is ∙ h) in
+    let b = and_parts (int_le (pos 0) p.goal) (list_all (is_usable count) p.parts) (sym is ∙ h) in
     (le_is (pos 0) p.goal b.0, parts_are count p.parts b.1)
 
 pub usable_indices : (count : ℕ) (p : Proof) (t : Bool) → t ≡ are_usable count p → t ≡ true → AllByRecursion (λ q. q.index < count) p.parts
@@ -77,6 +70,6 @@ module _ (premises : List Linear) (goal : Linear) (p : Proof) where
     pub may_not_show : t ≡ false → (t ≡ true) ↔ (Shows premises goal p × TotalFits premises goal p)
     may_not_show e = (
       (λ f. cc),
-      (λ h. is ∙ and_both (int_le (pos 0) p.goal) (list_all (is_usable (length premises)) p.parts) (is_le (pos 0) p.goal h.0.goal_multiplier)
+      (λ h. is ∙ and_from (int_le (pos 0) p.goal) (list_all (is_usable (length premises)) p.parts) (is_le (pos 0) p.goal h.0.goal_multiplier)
           (are_parts (length premises) p.parts h.0.multipliers h.0.indices)),
     )

@@ -9,6 +9,7 @@ use Rattle.std.proofs.lemmas.Option.{slice_get_within, get_or_from_slice_get}
 use Rattle.pc_rows.specs.Linear.{Linear}
 use Rattle.pc_rows.specs.Joins.{IsAlways, IsAtMost, SomeIsAtMost, IsCovered, is_always, is_at_most, is_covered, with_row, joined}
 use Rattle.pc_rows.proofs.Joining.{covering_is_meant}
+use Rattle.pc_rows.proofs.Tests.{same_truth}
 
 -- a row that some row of a list makes covered is covered by what covers that row
 
@@ -27,12 +28,12 @@ covered_of : (rows : List Linear) (x r : Linear) → IsCovered x rows → IsAtMo
 covered_of rows x r (inl h) g = inl (always_of x r h g)
 covered_of rows x r (inr h) g = inr (some_of rows x r h g)
 
-some_left : (xs ys : List Linear) (r : Linear) → SomeIsAtMost xs r → SomeIsAtMost (xs ++ ys) r
+pub some_left : (xs ys : List Linear) (r : Linear) → SomeIsAtMost xs r → SomeIsAtMost (xs ++ ys) r
 some_left [] ys r h = absurd h
 some_left (x ∷ xs) ys r (inl h) = inl h
 some_left (x ∷ xs) ys r (inr h) = inr (some_left xs ys r h)
 
-some_right : (xs ys : List Linear) (r : Linear) → SomeIsAtMost ys r → SomeIsAtMost (xs ++ ys) r
+pub some_right : (xs ys : List Linear) (r : Linear) → SomeIsAtMost ys r → SomeIsAtMost (xs ++ ys) r
 some_right [] ys r h = h
 some_right (x ∷ xs) ys r h = inr (some_right xs ys r h)
 
@@ -78,11 +79,6 @@ covered_by_join r a (x ∷ b) = by (is_covered x a) refl (covered_by_join r a b)
         IsCovered r (joined (cond t a (a ++ x ∷ [])) b) ↔ IsCovered r (a ++ x ∷ b)
     by true e h g = ((λ k. with_more a b x r (h.0 k)), (λ k. h.1 (without a b x r ((covering_is_meant x a).0 e) k)))
     by false e h g = subst (λ rows. IsCovered r (joined (a ++ x ∷ []) b) ↔ IsCovered r rows) (append_assoc a (x ∷ []) b) g
-
-same_truth : (b c : Bool) → (b ≡ true → c ≡ true) → (c ≡ true → b ≡ true) → b ≡ c
-same_truth true c h g = sym (h refl)
-same_truth false true h g = g refl
-same_truth false false h g = refl
 
 covered_append : (r : Linear) (a b : List Linear) → is_covered r (a ++ b) ≡ (is_covered r a || list_any (λ x. is_at_most x r) b)
 covered_append r a b = by (is_always r) (list_any-append (λ x. is_at_most x r) a b)

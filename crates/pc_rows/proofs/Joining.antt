@@ -1,10 +1,11 @@
 -- Rows that are covered, and joins.
 use Rattle.std.proofs.Common.{◌≡◌, ℕ, ◌+◌, ◌≤◌, ℤ, pos, ◌≤ℤ◌, arith, List, [], ◌∷◌, ◌++◌, length, drop, Bool, true, false, cond, refl, ap, inl, inr, length-append, Some, slice_get, Err}
-use Rattle.std.specs.Prelude.{◌⊎◌, ◌&&◌, ◌||◌, int_le}
+use Rattle.std.specs.Prelude.{◌⊎◌, int_le}
 use Rattle.std.specs.List.{list_all, list_any, AllByRecursion}
 use Rattle.std.specs.Ordering.{int_eq}
 use Rattle.std.specs.Cmp.Lexicographic.{pointwise}
 use Rattle.std.specs.Cmp.Rules.{signed_items}
+use Rattle.std.proofs.lemmas.Bool.{and_from, and_parts, or_cases, or_left, or_right}
 use Rattle.std.proofs.lemmas.Int.{ints}
 use Rattle.std.proofs.lemmas.Option.{slice_get_within, get_or_from_slice_get}
 use Rattle.std.proofs.lemmas.List.{drop_more, drop_all}
@@ -16,7 +17,6 @@ use Rattle.pc_rows.specs.Bounds.{Within}
 use Rattle.pc_rows.specs.Joins.{IsAlways, IsAtMost, SomeIsAtMost, IsCovered, is_always, is_at_most, is_covered, with_row, joined, AddIs, JoinIs}
 use Rattle.pc_rows.specs.Laws.{NumberIsMeant, CoveringIsMeant, CoveredIsMet, JoinIsBoth, JoinIsWithin}
 use Rattle.pc_rows.proofs.Lists.{zero_is, dot-zero}
-use Rattle.pc_rows.proofs.Ranges.{and_is}
 
 -- facts of each item of lists that are put together
 
@@ -34,20 +34,6 @@ each_right P (x ∷ xs) ys h = each_right P xs ys h.1
 
 -- the tests say what is meant
 
-or_is : (b c : Bool) → (b || c) ≡ true → (b ≡ true) ⊎ (c ≡ true)
-or_is true c h = inl refl
-or_is false c h = inr h
-
-or_left : (b c : Bool) → b ≡ true → (b || c) ≡ true
-or_left b c h = rw h refl
-
-or_right : (b c : Bool) → c ≡ true → (b || c) ≡ true
-or_right true c h = refl
-or_right false c h = h
-
-pub and_both : (b c : Bool) → b ≡ true → c ≡ true → (b && c) ≡ true
-and_both b c h g = rw (h, g) refl
-
 pub le_is : (a b : ℤ) → int_le a b ≡ true → a ≤ℤ b
 le_is a b h = grind (arith, ints)
 
@@ -56,35 +42,35 @@ is_le a b h = grind (arith, ints)
 
 zeros_are : (cs : List ℤ) → list_all is_zero cs ≡ true → AllByRecursion (λ c. c ≡ pos 0) cs
 zeros_are [] h = tt
-zeros_are (c ∷ cs) h = let p = and_is (is_zero c) (list_all is_zero cs) h in (zero_is c p.0, zeros_are cs p.1)
+zeros_are (c ∷ cs) h = let p = and_parts (is_zero c) (list_all is_zero cs) h in (zero_is c p.0, zeros_are cs p.1)
 
 are_zeros : (cs : List ℤ) → AllByRecursion (λ c. c ≡ pos 0) cs → list_all is_zero cs ≡ true
 are_zeros [] h = refl
-are_zeros (c ∷ cs) h = and_both (is_zero c) (list_all is_zero cs) (ap is_zero h.0) (are_zeros cs h.1)
+are_zeros (c ∷ cs) h = and_from (is_zero c) (list_all is_zero cs) (ap is_zero h.0) (are_zeros cs h.1)
 
 pub number_is_meant : NumberIsMeant
 number_is_meant r = (zeros_are r.coefficients, are_zeros r.coefficients)
 
 pub always_is : (r : Linear) → is_always r ≡ true → IsAlways r
 always_is r h =
-    let b = and_is (list_all is_zero r.coefficients) (int_le (pos 0) r.constant) h in
+    let b = and_parts (list_all is_zero r.coefficients) (int_le (pos 0) r.constant) h in
     (zeros_are r.coefficients b.0, le_is (pos 0) r.constant b.1)
 
 is_always_test : (r : Linear) → IsAlways r → is_always r ≡ true
-is_always_test r h = and_both (list_all is_zero r.coefficients) (int_le (pos 0) r.constant) (are_zeros r.coefficients h.0) (is_le (pos 0) r.constant h.1)
+is_always_test r h = and_from (list_all is_zero r.coefficients) (int_le (pos 0) r.constant) (are_zeros r.coefficients h.0) (is_le (pos 0) r.constant h.1)
 
 pub at_most_is : (a r : Linear) → is_at_most a r ≡ true → IsAtMost a r
 at_most_is a r h =
-    let b = and_is (pointwise int_eq a.coefficients r.coefficients) (int_le a.constant r.constant) h in
+    let b = and_parts (pointwise int_eq a.coefficients r.coefficients) (int_le a.constant r.constant) h in
     ((signed_items a.coefficients r.coefficients).0 b.0, le_is a.constant r.constant b.1)
 
 is_at_most_test : (a r : Linear) → IsAtMost a r → is_at_most a r ≡ true
 is_at_most_test a r h =
-    and_both (pointwise int_eq a.coefficients r.coefficients) (int_le a.constant r.constant) ((signed_items a.coefficients r.coefficients).1 h.0) (is_le a.constant r.constant h.1)
+    and_from (pointwise int_eq a.coefficients r.coefficients) (int_le a.constant r.constant) ((signed_items a.coefficients r.coefficients).1 h.0) (is_le a.constant r.constant h.1)
 
 some_is : (rows : List Linear) (r : Linear) → list_any (λ a. is_at_most a r) rows ≡ true → SomeIsAtMost rows r
 some_is [] r h = absurd (cc)
-some_is (a ∷ rows) r h = by (or_is (is_at_most a r) (list_any (λ a. is_at_most a r) rows) h) (λ g. some_is rows r g)
+some_is (a ∷ rows) r h = by (or_cases (is_at_most a r) (list_any (λ a. is_at_most a r) rows) h) (λ g. some_is rows r g)
   where
     by : (is_at_most a r ≡ true) ⊎ (list_any (λ a. is_at_most a r) rows ≡ true) → (list_any (λ a. is_at_most a r) rows ≡ true → SomeIsAtMost rows r) → IsAtMost a r ⊎ SomeIsAtMost rows r
     by (inl k) go = inl (at_most_is a r k)
@@ -96,7 +82,7 @@ is_some_test (a ∷ rows) r (inl h) = or_left (is_at_most a r) (list_any (λ a. 
 is_some_test (a ∷ rows) r (inr h) = or_right (is_at_most a r) (list_any (λ a. is_at_most a r) rows) (is_some_test rows r h)
 
 pub covered_is : (r : Linear) (rows : List Linear) → is_covered r rows ≡ true → IsCovered r rows
-covered_is r rows h = by (or_is (is_always r) (list_any (λ a. is_at_most a r) rows) h)
+covered_is r rows h = by (or_cases (is_always r) (list_any (λ a. is_at_most a r) rows) h)
   where
     by : (is_always r ≡ true) ⊎ (list_any (λ a. is_at_most a r) rows ≡ true) → IsCovered r rows
     by (inl k) = inl (always_is r k)

@@ -2,11 +2,11 @@
 use Rattle.std.proofs.Common.{◌≡◌, ℕ, zero, suc, ◌<◌, ℤ, pos, negsuc, ◌+ℤ◌, ◌*ℤ◌, neg_ℤ, refl, sym, ap, arith, List, [], ◌∷◌, length, get_or, set, replicate}
 use Rattle.std.specs.List.{list_all}
 use Rattle.std.specs.Prelude.{true}
+use Rattle.std.proofs.lemmas.Bool.{and_parts}
 use Rattle.std.proofs.lemmas.Int.{ints}
 use Rattle.std.proofs.Math.IntN.{+ℤ_idl, +ℤ_idr, *ℤ-zero, zero-*ℤ}
 use Rattle.pc_rows.specs.Linear.{is_zero, add_lists, scale_list, negate_list, dot}
 use Rattle.pc_rows.proofs.Ring.{mul_add, add_mul, mul_assoc, mul_neg}
-use Rattle.pc_rows.proofs.Ranges.{and_is}
 
 pub dot-add_lists : (a b s : List ℤ) → dot (add_lists a b) s ≡ dot a s +ℤ dot b s
 dot-add_lists [] b s = sym (+ℤ_idl (dot b s))
@@ -56,7 +56,7 @@ pub dot-zero : (a s : List ℤ) → list_all is_zero a ≡ true → dot a s ≡ 
 dot-zero [] s h = refl
 dot-zero (a ∷ as') [] h = refl
 dot-zero (a ∷ as') (x ∷ s) h =
-    let p = and_is (is_zero a) (list_all is_zero as') h in
+    let p = and_parts (is_zero a) (list_all is_zero as') h in
     rw (zero_is a p.0, dot-zero as' s p.1) (let z = zero-*ℤ x in omega (arith, ints))
 
 pub dot-replicate : (n : ℕ) (s : List ℤ) → dot (replicate n (pos 0)) s ≡ pos 0

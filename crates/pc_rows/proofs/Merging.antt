@@ -9,7 +9,7 @@ use Rattle.pc_rows.specs.Linear.{InRange, AllInRange, add_lists, scale_list}
 use Rattle.pc_rows.specs.Terms.{Rises, dense, front, least, lookup, past, term_of}
 use Rattle.pc_rows.specs.Merges.{Merged, MergedTo, MultipleFits}
 use Rattle.pc_rows.proofs.Algebra.{get_or-add_lists, get_or-scale_list, length-add_lists, length-scale_list}
-use Rattle.pc_rows.proofs.TermLists.{all_at, below_append, below_term, below_wider, dense_in_range, dense_is, few, front_is, get_or-dense, in_range_at, least_below, least_is, length-dense, lookup_append, lookup_before, lookup_kept, lookup_other, lookup_past, lookup_term, past_is, rises_append, rises_term, shorter, zero_in_range}
+use Rattle.pc_rows.proofs.TermLists.{all_at, below_append, below_term, below_wider, dense_in_range, dense_is, few, front_is, get_or-dense, in_range_at, least_below, least_is, length-dense, lookup_append, lookup_before, lookup_kept, lookup_other, lookup_past, lookup_term, past_is, rises_append, rises_term, zero_in_range}
 
 -- the coefficients of the multiple and of the sum
 module _ (a : List Term) (m : ℤ) (b : List Term) where
@@ -181,6 +181,3 @@ module _ (n : ℕ) (a : List Term) (m : ℤ) (b left right : List Term) (sum : S
       let l' : left' ≡ past left (least left right) = rw is at l in
       let r' : right' ≡ past right (least left right) = rw is at r in
       rw (l', r') (least left right + 1, goes_on n a m b left right sum so_far some c new (c_is ∙ sum_is) (subst InRange product_is fits.0) (subst InRange (sym c_is) fits.1) items' room)
-
-  pub turn_shorter : (left' right' : List Term) → left' ≡ past left v → right' ≡ past right v → length left' + length right' < length left + length right
-  turn_shorter left' right' l r = rw (l, r, is) (shorter left right some)

@@ -2,10 +2,10 @@
 use Rattle.std.proofs.Common.{◌≡◌, ◌∙◌, zero, suc, ℤ, pos, negsuc, ◌*ℤ◌, List, [], ◌∷◌, true, refl, sym, subst, arith, lit<, Result, Ok, Err}
 use Rattle.std.specs.Prelude.{IsTrue, OkIff}
 use Rattle.std.specs.List.{list_all}
+use Rattle.std.proofs.lemmas.Bool.{and_parts}
 use Rattle.std.proofs.lemmas.Int.{unsigned_abs-mul}
 use Rattle.std.proofs.Math.IntN.{*ℤ-zero}
 use Rattle.pc_rows.specs.Linear.{Linear, InRange, AllInRange, IsInRange, is_zero, is_number, scale_list, scaled_by}
-use Rattle.pc_rows.proofs.Ranges.{and_is}
 use Rattle.pc_rows.proofs.Lists.{zero_is}
 use Rattle.pc_rows.proofs.Algebra.{same_row}
 
@@ -23,7 +23,7 @@ module _ (k : ℤ) where
   zeros_are : (zs : List ℤ) → list_all is_zero zs ≡ true → scale_list k zs ≡ zs × AllInRange zs
   zeros_are [] h = (refl, tt)
   zeros_are (z ∷ zs) h =
-      let p = and_is (is_zero z) (list_all is_zero zs) h in
+      let p = and_parts (is_zero z) (list_all is_zero zs) h in
       let e = zero_is z p.0 in
       let more = zeros_are zs p.1 in
       (rw (e, *ℤ-zero k, more.0) refl, (subst InRange (sym e) (lit< tt), more.1))

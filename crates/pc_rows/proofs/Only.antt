@@ -1,5 +1,5 @@
 -- Rows over the first variables: no operation brings a variable that its rows have not.
-use Rattle.std.proofs.Common.{◌≡◌, ℕ, zero, suc, ◌≤◌, ℤ, pos, ◌*ℤ◌, neg_ℤ, refl, ap, ◌∙◌, arith, List, [], ◌∷◌, ◌++◌, get_or, set, replicate, Bool, true, false, cond, Option}
+use Rattle.std.proofs.Common.{◌≡◌, ℕ, zero, suc, ◌≤◌, ℤ, pos, ◌*ℤ◌, neg_ℤ, refl, ap, ◌∙◌, arith, List, [], ◌∷◌, ◌++◌, get_or, set, Bool, true, false, cond, Option}
 use Rattle.std.specs.List.{AllByRecursion}
 use Rattle.std.proofs.lemmas.Int.{ints}
 use Rattle.std.proofs.Math.IntN.{*ℤ-zero}
@@ -8,7 +8,7 @@ use Rattle.pc_rows.specs.declared.row.TheConstants.{VARIABLES}
 use Rattle.pc_rows.specs.Substitution.{carried, needs_open_end, never_row}
 use Rattle.pc_rows.specs.Joins.{with_row, is_covered}
 use Rattle.pc_rows.specs.Laws.{FirstIsOver, SubstitutedIsOver, DifferenceIsOver, NegationIsOver, JoinIsOver}
-use Rattle.pc_rows.proofs.Algebra.{get_or-add_lists, get_or-scale_list}
+use Rattle.pc_rows.proofs.Algebra.{get_or-add_lists, get_or-scale_list, get_or-negate_list, get_or-zeros}
 use Rattle.pc_rows.proofs.Joining.{each_join}
 
 pub zero_from_at : (n : ℕ) (zs : List ℤ) (v : ℕ) → n ≤ v → get_or (zero_from n zs) v (pos 0) ≡ pos 0
@@ -17,11 +17,6 @@ zero_from_at zero (z ∷ zs) zero h = refl
 zero_from_at zero (z ∷ zs) (suc v) h = zero_from_at zero zs v (omega arith)
 zero_from_at (suc n) (z ∷ zs) zero h = absurd (omega arith)
 zero_from_at (suc n) (z ∷ zs) (suc v) h = zero_from_at n zs v (omega arith)
-
-negated_at : (zs : List ℤ) (v : ℕ) → get_or (negate_list zs) v (pos 0) ≡ neg_ℤ (get_or zs v (pos 0))
-negated_at [] v = refl
-negated_at (z ∷ zs) zero = refl
-negated_at (z ∷ zs) (suc v) = negated_at zs v
 
 set_at : (zs : List ℤ) (x v : ℕ) → get_or zs v (pos 0) ≡ pos 0 → get_or (set zs x (pos 0)) v (pos 0) ≡ pos 0
 set_at [] x v h = refl
@@ -37,7 +32,7 @@ scaled_at : (k : ℤ) (a : List ℤ) (v : ℕ) → get_or a v (pos 0) ≡ pos 0 
 scaled_at k a v h = get_or-scale_list k a v ∙ ap (λ (z : ℤ). k *ℤ z) h ∙ *ℤ-zero k
 
 opposite_at : (a : List ℤ) (v : ℕ) → get_or a v (pos 0) ≡ pos 0 → get_or (negate_list a) v (pos 0) ≡ pos 0
-opposite_at a v h = negated_at a v ∙ ap neg_ℤ h
+opposite_at a v h = get_or-negate_list a v ∙ ap neg_ℤ h
 
 pub first_is_over : FirstIsOver
 first_is_over n r v h = zero_from_at n r.coefficients v h
@@ -54,14 +49,9 @@ carried_is_over n r form x lo hi f g v h =
     (scaled_at (coefficient r x) form.coefficients v (g v h))
     (set_at r.coefficients x v (f v h))
 
-zeros_at : (m v : ℕ) → get_or (replicate m (pos 0)) v (pos 0) ≡ pos 0
-zeros_at zero v = refl
-zeros_at (suc m) zero = refl
-zeros_at (suc m) (suc v) = zeros_at m v
-
 by_case : (n : ℕ) (r form : Linear) (x : ℕ) (lo hi : Option ℤ) (none is_open : Bool) → IsOver n r → IsOver n form → IsOver n (cond none r (cond is_open never_row (carried r x form lo hi)))
 by_case n r form x lo hi true is_open f g = f
-by_case n r form x lo hi false true f g = λ v h. zeros_at VARIABLES v
+by_case n r form x lo hi false true f g = λ v h. get_or-zeros VARIABLES v
 by_case n r form x lo hi false false f g = carried_is_over n r form x lo hi f g
 
 pub substituted_is_over : SubstitutedIsOver

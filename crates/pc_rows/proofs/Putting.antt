@@ -1,8 +1,7 @@
 -- The terms with another coefficient at a variable.
-use Rattle.std.proofs.Common.{◌≡◌, ◌∙◌, ℕ, zero, suc, ◌+◌, ◌<◌, ◌≤◌, ℤ, pos, true, false, cond, List, [], ◌∷◌, ◌++◌, length, get_or, set, take, drop, nat_lt, refl, sym, ap, subst, arith, inl, inr, ◌==◌, lt-ltb}
+use Rattle.std.proofs.Common.{◌≡◌, ◌∙◌, ℕ, zero, suc, ◌+◌, ◌<◌, ◌≤◌, ℤ, pos, cond, List, [], ◌∷◌, ◌++◌, length, get_or, set, take, drop, refl, sym, ap, subst, arith, inl, inr, ◌==◌, lt-ltb, le-ltb}
 use Rattle.std.proofs.lemmas.List.{get_or_default}
 use Rattle.std.proofs.lemmas.Bool.{cases_lt}
-use Rattle.std.proofs.lemmas.Bool.Decides.{nat_tests}
 use Rattle.std.proofs.Common.{get_or-set_same, get_or-set_other, length-set, length-append, append_assoc}
 use Rattle.smallvec.specs.SmallVec.{SmallVec, HasRoomFor}
 use Rattle.pc_rows.specs.declared.row.TheConstants.{VARIABLES}
@@ -14,21 +13,15 @@ use Rattle.pc_rows.proofs.First.{zero_from_long, zero_from_low}
 use Rattle.pc_rows.proofs.Only.{zero_from_at}
 use Rattle.pc_rows.proofs.TermLists.{below_all, below_term, dense_is, few, get_or-dense, if_apart, length-dense, lookup_append, lookup_before, lookup_kept, lookup_past, lookup_term, past_is, rises_append, rises_term}
 
-test_true : (a b : ℕ) → a < b → nat_lt a b ≡ true
-test_true a b h = lt-ltb a b h
-
-test_false : (a b : ℕ) → b ≤ a → nat_lt a b ≡ false
-test_false a b h = grind (arith, nat_tests)
-
 -- the terms up to the first with a variable of at least v
 pub split_at : (ts : List Term) (i v : ℕ) → i ≤ length ts → ((k : ℕ) (d : Term) → k < i → (get_or ts k d).variable < v)
     → ((d : Term) → i < length ts → v ≤ (get_or ts i d).variable) → (take i ts ≡ before ts v) × (drop i ts ≡ after ts v)
 split_at [] zero v le h g = (refl, refl)
 split_at [] (suc i) v le h g = absurd (omega arith)
-split_at (t ∷ ts) zero v le h g = rw (test_false t.variable v (g t (omega arith))) (refl, refl)
+split_at (t ∷ ts) zero v le h g = rw (le-ltb t.variable v (g t (omega arith))) (refl, refl)
 split_at (t ∷ ts) (suc i) v le h g =
     let rest = split_at ts i v (omega arith) (λ k d lt. h (suc k) d (omega arith)) (λ d lt. g d (omega arith)) in
-    rw (test_true t.variable v (h 0 t (omega arith))) (ap (λ us. t ∷ us) rest.0, rest.1)
+    rw (lt-ltb t.variable v (h 0 t (omega arith))) (ap (λ us. t ∷ us) rest.0, rest.1)
 
 pub stops_here : (ts : List Term) (i v : ℕ) (t : Term) → t ≡ get_or ts i t → v ≤ t.variable → (d : Term) → i < length ts → v ≤ (get_or ts i d).variable
 stops_here ts i v t is le d lt = subst (λ (x : Term). v ≤ x.variable) (is ∙ get_or_default ts i t d lt) le
@@ -39,36 +32,36 @@ module _ (v : ℕ) where
   below_before : (ts : List Term) → Below v (before ts v)
   below_before [] = tt
   below_before (t ∷ ts) = elim (cases_lt t.variable v) [
-    | inl lt ↦ rw (test_true t.variable v lt) (lt, below_before ts)
-    | inr le ↦ rw (test_false t.variable v le) tt
+    | inl lt ↦ rw (lt-ltb t.variable v lt) (lt, below_before ts)
+    | inr le ↦ rw (le-ltb t.variable v le) tt
   ]
 
   rises_before : (n : ℕ) (ts : List Term) → Rises n ts → Rises n (before ts v)
   rises_before n [] h = tt
   rises_before n (t ∷ ts) h = elim (cases_lt t.variable v) [
-    | inl lt ↦ rw (test_true t.variable v lt) (h.0, h.1, h.2, h.3, rises_before (t.variable + 1) ts h.4)
-    | inr le ↦ rw (test_false t.variable v le) tt
+    | inl lt ↦ rw (lt-ltb t.variable v lt) (h.0, h.1, h.2, h.3, rises_before (t.variable + 1) ts h.4)
+    | inr le ↦ rw (le-ltb t.variable v le) tt
   ]
 
   rises_after : (n : ℕ) (ts : List Term) → Rises n ts → Rises v (after ts v)
   rises_after n [] h = tt
   rises_after n (t ∷ ts) h = elim (cases_lt t.variable v) [
-    | inl lt ↦ rw (test_true t.variable v lt) (rises_after (t.variable + 1) ts h.4)
-    | inr le ↦ rw (test_false t.variable v le) (le, h.1, h.2, h.3, h.4)
+    | inl lt ↦ rw (lt-ltb t.variable v lt) (rises_after (t.variable + 1) ts h.4)
+    | inr le ↦ rw (le-ltb t.variable v le) (le, h.1, h.2, h.3, h.4)
   ]
 
   lookup_low : (n k : ℕ) (ts : List Term) → Rises n ts → k < v → lookup (before ts v) k ≡ lookup ts k
   lookup_low n k [] h lt = refl
   lookup_low n k (t ∷ ts) h lt = elim (cases_lt t.variable v) [
-    | inl small ↦ rw (test_true t.variable v small) (ap (λ z. cond (t.variable == k) t.coefficient z) (lookup_low (t.variable + 1) k ts h.4 lt))
-    | inr le ↦ rw (test_false t.variable v le) (sym (lookup_before v k (t ∷ ts) lt (le, h.1, h.2, h.3, h.4)))
+    | inl small ↦ rw (lt-ltb t.variable v small) (ap (λ z. cond (t.variable == k) t.coefficient z) (lookup_low (t.variable + 1) k ts h.4 lt))
+    | inr le ↦ rw (le-ltb t.variable v le) (sym (lookup_before v k (t ∷ ts) lt (le, h.1, h.2, h.3, h.4)))
   ]
 
   lookup_high : (n k : ℕ) (ts : List Term) → Rises n ts → v ≤ k → lookup (after ts v) k ≡ lookup ts k
   lookup_high n k [] h le = refl
   lookup_high n k (t ∷ ts) h le = elim (cases_lt t.variable v) [
-    | inl small ↦ rw (test_true t.variable v small) (lookup_high (t.variable + 1) k ts h.4 le ∙ sym (if_apart t.variable k _ _ (omega arith)))
-    | inr big ↦ rw (test_false t.variable v big) refl
+    | inl small ↦ rw (lt-ltb t.variable v small) (lookup_high (t.variable + 1) k ts h.4 le ∙ sym (if_apart t.variable k _ _ (omega arith)))
+    | inr big ↦ rw (le-ltb t.variable v big) refl
   ]
 
 module _ (ts : List Term) (v : ℕ) (c : ℤ) (rises : Rises 0 ts) (lt : v < VARIABLES) (fits : InRange c) where
@@ -88,9 +81,6 @@ module _ (ts : List Term) (v : ℕ) (c : ℤ) (rises : Rises 0 ts) (lt : v < VAR
   few_put =
       let n = few 0 VARIABLES (before ts v ++ (term_of v c ++ high)) (omega arith) rises_put (below_all (before ts v ++ (term_of v c ++ high)) 0 rises_put) in
       omega (arith, n)
-
-  pub few_before : length (before ts v) ≤ VARIABLES
-  few_before = omega (arith, few_put, length-append (before ts v) (term_of v c ++ high))
 
   -- below v
   at_low : (k : ℕ) → k < v → lookup (before ts v ++ (term_of v c ++ high)) k ≡ lookup ts k

@@ -2,6 +2,7 @@
 use Rattle.std.proofs.Common.{◌≡◌, ℤ, List, [], ◌∷◌, Bool, true, false, refl, arith, Ok, Err}
 use Rattle.std.specs.Prelude.{◌&&◌}
 use Rattle.std.specs.List.{list_all}
+use Rattle.std.proofs.lemmas.Bool.{and_parts, false_from_ne_true}
 use Rattle.std.proofs.lemmas.Bool.Decides.{nat_tests}
 use Rattle.pc_rows.specs.Linear.{Linear, InRange, AllInRange, IsInRange, in_range, is_in_range, fits}
 use Rattle.pc_rows.specs.Laws.{RangeIsMeant}
@@ -9,10 +10,6 @@ use Rattle.pc_rows.specs.Laws.{RangeIsMeant}
 pub and_is : (b c : Bool) → (b && c) ≡ true → (b ≡ true) × (c ≡ true)
 and_is true c h = (refl, h)
 and_is false c h = cc
-
-not_true : (b : Bool) → (b ≡ true → ⊥) → b ≡ false
-not_true true h = absurd (h refl)
-not_true false h = refl
 
 pub in_is : (z : ℤ) → InRange z → in_range z ≡ true
 in_is z h = grind (arith, nat_tests)
@@ -26,18 +23,18 @@ all_in (z ∷ zs) h = rw (in_is z h.0, all_in zs h.1)
 
 pub in_all : (zs : List ℤ) → list_all in_range zs ≡ true → AllInRange zs
 in_all [] h = tt
-in_all (z ∷ zs) h = let p = and_is (in_range z) (list_all in_range zs) h in (is_in z p.0, in_all zs p.1)
+in_all (z ∷ zs) h = let p = and_parts (in_range z) (list_all in_range zs) h in (is_in z p.0, in_all zs p.1)
 
 pub to_test : (r : Linear) → IsInRange r → is_in_range r ≡ true
 to_test r h = rw (in_is r.constant h.0, all_in r.coefficients h.1)
 
 pub from_test : (r : Linear) → is_in_range r ≡ true → IsInRange r
 from_test r h =
-    let p = and_is (in_range r.constant) (list_all in_range r.coefficients) h in
+    let p = and_parts (in_range r.constant) (list_all in_range r.coefficients) h in
     (is_in r.constant p.0, in_all r.coefficients p.1)
 
 pub to_not_test : (r : Linear) → (IsInRange r → ⊥) → is_in_range r ≡ false
-to_not_test r h = not_true (is_in_range r) (λ e. h (from_test r e))
+to_not_test r h = false_from_ne_true (is_in_range r) (λ e. h (from_test r e))
 
 pub range_is_meant : RangeIsMeant
 range_is_meant r = (from_test r, to_test r)

@@ -3,7 +3,7 @@ use Rattle.std.proofs.Common.{◌≡◌, ◌≢◌, ◌∙◌, ℕ, zero, suc, �
 use Rattle.std.specs.List.{range_with_len, list_all}
 use Rattle.std.specs.Prelude.{slice_get, ◌==◌}
 use Rattle.smallvec.specs.SmallVec.{SmallVec}
-use Rattle.std.proofs.lemmas.Bool.{cases_lt}
+use Rattle.std.proofs.lemmas.Bool.{and_parts, cases_lt}
 use Rattle.std.proofs.lemmas.Bool.Decides.{nat_tests}
 use Rattle.pc_rows.specs.declared.row.TheConstants.{VARIABLES}
 use Rattle.pc_rows.specs.declared.terms.Term.{Term}
@@ -11,7 +11,6 @@ use Rattle.pc_rows.specs.Linear.{Linear, IsRow, coefficient, is_number, is_zero}
 use Rattle.pc_rows.specs.Terms.{IsKept, Rises, dense, lookup}
 use Rattle.pc_rows.specs.Readers.{terms_from, terms_of}
 use Rattle.pc_rows.specs.Merges.{Below}
-use Rattle.pc_rows.proofs.Ranges.{and_is}
 use Rattle.pc_rows.proofs.Lists.{zero_is}
 use Rattle.pc_rows.proofs.TermLists.{below_all, below_wider, dense_in_range, dense_none, few, get_or-dense, if_apart, if_same, length-dense, lookup_before, rises_more}
 
@@ -68,8 +67,8 @@ zeros_are (suc n) = zeros_are n
 
 zero_at : (zs : List ℤ) (k : ℕ) → list_all is_zero zs ≡ true → get_or zs k (pos 0) ≡ pos 0
 zero_at [] k h = refl
-zero_at (z ∷ zs) zero h = zero_is z (and_is (is_zero z) (list_all is_zero zs) h).0
-zero_at (z ∷ zs) (suc k) h = zero_at zs k (and_is (is_zero z) (list_all is_zero zs) h).1
+zero_at (z ∷ zs) zero h = zero_is z (and_parts (is_zero z) (list_all is_zero zs) h).0
+zero_at (z ∷ zs) (suc k) h = zero_at zs k (and_parts (is_zero z) (list_all is_zero zs) h).1
 
 some_term : (t : Term) (ts : List Term) → Rises 0 (t ∷ ts) → (b : Bool) → list_all is_zero (dense (t ∷ ts)) ≡ b → b ≡ false
 some_term t ts h true e = absurd (h.3 (sym (if_same t.variable t.variable _ _ refl) ∙ sym (get_or-dense (t ∷ ts) t.variable (pos 0) h.1) ∙ zero_at (dense (t ∷ ts)) t.variable e))

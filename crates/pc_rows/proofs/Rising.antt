@@ -1,5 +1,5 @@
 -- Lists of parts that grow at their end.
-use Rattle.std.proofs.Common.{◌≡◌, sym, subst, List, [], ◌∷◌, ◌++◌, Result, Ok, Err}
+use Rattle.std.proofs.Common.{◌≡◌, ℕ, ◌≤◌, sym, arith, subst, List, [], ◌∷◌, ◌++◌, Result, Ok, Err}
 use Rattle.std.specs.Prelude.{◌<◌, OnOk, OnErr}
 use Rattle.pc_rows.specs.declared.proof.Part.{Part}
 use Rattle.pc_rows.specs.Evidence.{IsAbove, IsRising, IsPart, IsParts}
@@ -11,6 +11,11 @@ rising_more (q ∷ ps) p h g = (each_join (λ x. q.index < x.index) ps (p ∷ []
 
 pub parts_more : (ps : List Part) (p : Part) → IsParts ps → IsAbove p.index ps → IsPart p → IsParts (ps ++ p ∷ [])
 parts_more ps p h above is = record { rising = rising_more ps p h.rising above; each = each_join IsPart ps (p ∷ []) h.each (is, tt) }
+
+-- indices below a number are below each greater one
+pub above_more : (m n : ℕ) (ps : List Part) → m ≤ n → IsAbove m ps → IsAbove n ps
+above_more m n [] le h = tt
+above_more m n (p ∷ ps) le h = (omega (arith, h.0), above_more m n ps le h.1)
 
 -- after a push, whether it was refused or not
 pub pushed : {E : Type 0} (r : Result (Unit {0}) E) (old new : List Part) (p : Part) →

@@ -4,6 +4,7 @@ use Rattle.std.specs.Prelude.{◌==◌, ◌&&◌}
 use Rattle.std.specs.Ordering.{int_eq}
 use Rattle.std.specs.Cmp.Lexicographic.{pointwise}
 use Rattle.std.specs.Cmp.Rules.{signed_items}
+use Rattle.std.proofs.lemmas.Bool.{and_from, and_parts}
 use Rattle.std.proofs.lemmas.Bool.Decides.{nat_tests, Decides-int_eq}
 use Rattle.std.proofs.lemmas.List.{same_lists, get_or_default}
 use Rattle.pc_rows.specs.declared.terms.Term.{Term}
@@ -11,11 +12,10 @@ use Rattle.pc_rows.specs.Linear.{is_zero}
 use Rattle.pc_rows.specs.Terms.{Rises, dense}
 use Rattle.pc_rows.specs.Readers.{terms_from, terms_of, among, TermsAreCoefficients, SameTermsSameRow}
 use Rattle.pc_rows.proofs.Algebra.{same_row}
-use Rattle.pc_rows.proofs.Joining.{and_both}
 use Rattle.pc_rows.proofs.Lists.{zero_is}
-use Rattle.pc_rows.proofs.Ranges.{and_is}
 use Rattle.pc_rows.proofs.TermLists.{if_apart, if_same}
 use Rattle.pc_rows.proofs.Reading.{pairs, dense_terms}
+use Rattle.pc_rows.proofs.Tests.{same_truth}
 
 -- of coefficients from v on there is no term below v
 among_before : (v k : ℕ) (cs : List ℤ) → k < v → among (terms_from v cs) k ≡ pos 0
@@ -67,11 +67,6 @@ pub same_dense : (a b : List Term) → Rises 0 a → Rises 0 b → dense a ≡ d
 same_dense a b h g e =
     sym (unpaired a) ∙ ap (map term) (sym (dense_terms a h) ∙ ap (terms_from 0) e ∙ dense_terms b g) ∙ unpaired b
 
-same_truth : (b c : Bool) → (b ≡ true → c ≡ true) → (c ≡ true → b ≡ true) → b ≡ c
-same_truth true c h g = sym (h refl)
-same_truth false true h g = g refl
-same_truth false false h g = refl
-
 -- the test for one term
 abbrev equal_terms : Term → Term → Bool
 equal_terms x y = (x.variable == y.variable) && int_eq x.coefficient y.coefficient
@@ -82,25 +77,25 @@ made_of v c = record { variable = v; coefficient = c }
 pub same_term : (x y : Term) → equal_terms x y ≡ true → x ≡ y
 unfolding made_of
 same_term x y h =
-    let p = and_is (x.variable == y.variable) (int_eq x.coefficient y.coefficient) h in
+    let p = and_parts (x.variable == y.variable) (int_eq x.coefficient y.coefficient) h in
     let variable : x.variable ≡ y.variable = grind (arith, nat_tests, p.0) in
     ap₂ made_of variable ((Decides-int_eq x.coefficient y.coefficient).0 p.1)
 
 pub is_same_term : (x : Term) → equal_terms x x ≡ true
 is_same_term x =
     let variable : (x.variable == x.variable) ≡ true = grind (arith, nat_tests) in
-    and_both (x.variable == x.variable) (int_eq x.coefficient x.coefficient) variable ((Decides-int_eq x.coefficient x.coefficient).1 refl)
+    and_from (x.variable == x.variable) (int_eq x.coefficient x.coefficient) variable ((Decides-int_eq x.coefficient x.coefficient).1 refl)
 
 module _ (f : Term → Term → Bool) (same : (x y : Term) → f x y ≡ true → x ≡ y) (is_same : (x : Term) → f x x ≡ true) where
   all_same : (a b : List Term) → pointwise f a b ≡ true → a ≡ b
   all_same [] [] h = refl
   all_same [] (y ∷ ys) h = cc
   all_same (x ∷ xs) [] h = cc
-  all_same (x ∷ xs) (y ∷ ys) h = let p = and_is (f x y) (pointwise f xs ys) h in ap₂ (λ u us. u ∷ us) (same x y p.0) (all_same xs ys p.1)
+  all_same (x ∷ xs) (y ∷ ys) h = let p = and_parts (f x y) (pointwise f xs ys) h in ap₂ (λ u us. u ∷ us) (same x y p.0) (all_same xs ys p.1)
 
   are_same : (a : List Term) → pointwise f a a ≡ true
   are_same [] = refl
-  are_same (x ∷ xs) = and_both (f x x) (pointwise f xs xs) (is_same x) (are_same xs)
+  are_same (x ∷ xs) = and_from (f x x) (pointwise f xs xs) (is_same x) (are_same xs)
 
   pub same_coefficients : (a b : List Term) → Rises 0 a → Rises 0 b → pointwise f a b ≡ pointwise int_eq (dense a) (dense b)
   same_coefficients a b h g = same_truth (pointwise f a b) (pointwise int_eq (dense a) (dense b))

@@ -1,8 +1,7 @@
 -- Lists of terms with rising variables, and the coefficients that they stand for.
-use Rattle.std.proofs.Common.{◌≡◌, ◌≢◌, ◌∙◌, ℕ, zero, suc, ◌+◌, ◌<◌, ◌≤◌, min, ℤ, pos, negsuc, Bool, true, false, cond, List, [], ◌∷◌, ◌++◌, length, get_or, map, replicate, refl, sym, ap, arith, inl, inr, lit<}
+use Rattle.std.proofs.Common.{◌≡◌, ◌≢◌, ◌∙◌, ℕ, zero, suc, ◌+◌, ◌<◌, ◌≤◌, ℤ, pos, Bool, true, false, cond, List, [], ◌∷◌, ◌++◌, length, get_or, map, replicate, refl, sym, ap, arith, lit<}
 use Rattle.std.specs.List.{range_with_len}
 use Rattle.std.specs.Prelude.{◌==◌}
-use Rattle.std.proofs.lemmas.Bool.{cases_lt}
 use Rattle.std.proofs.lemmas.Bool.Decides.{nat_tests}
 use Rattle.std.proofs.lemmas.List.{same_lists, get_or_default, length-replicate, get_or-replicate}
 use Rattle.std.proofs.lemmas.List.FromFn.{length-map-range_with_len, get_or-map-range_with_len}
@@ -13,6 +12,7 @@ use Rattle.pc_rows.specs.Linear.{InRange, AllInRange, is_zero}
 use Rattle.pc_rows.specs.Terms.{AreTerms, Rises, dense, front, least, lookup, past, term_of}
 use Rattle.pc_rows.specs.Merges.{Below}
 use Rattle.pc_rows.proofs.Lists.{zero_is}
+use Rattle.pc_rows.proofs.Tests.{not_zero}
 
 pub if_apart : {X : Type 0} (a b : ℕ) (x y : X) → a ≢ b → cond (a == b) x y ≡ y
 if_apart a b x y h = grind (arith, nat_tests)
@@ -62,15 +62,11 @@ pub lookup_kept : (k : ℕ) (ts us : List Term) → lookup us k ≡ pos 0 → lo
 lookup_kept k [] us h = h
 lookup_kept k (t ∷ ts) us h = ap (λ z. cond (t.variable == k) t.coefficient z) (lookup_kept k ts us h)
 
-nonzero_is : (c : ℤ) → is_zero c ≡ false → c ≢ pos 0
-nonzero_is (pos n) h = grind (arith, nat_tests)
-nonzero_is (negsuc n) h = λ e. cc
-
 -- the term of a number, by cases
 module _ (P : List Term → Type 0) (v : ℕ) (c : ℤ) (none : c ≡ pos 0 → P []) (some : c ≢ pos 0 → P (record { variable = v; coefficient = c } ∷ [])) where
   go : (b : Bool) → is_zero c ≡ b → P (cond b [] (record { variable = v; coefficient = c } ∷ []))
   go true e = none (zero_is c e)
-  go false e = some (nonzero_is c e)
+  go false e = some (not_zero c e)
 
   pub by_term : P (term_of v c)
   by_term = go (is_zero c) refl
@@ -124,32 +120,6 @@ pub past_is : (v : ℕ) (ts : List Term) → Rises v ts
     → Rises (v + 1) (past ts v) × ((k : ℕ) → v + 1 ≤ k → lookup (past ts v) k ≡ lookup ts k)
 past_is v [] h = (tt, λ k le. refl)
 past_is v (t ∷ ts) h = past_go v t ts h (t.variable == v) refl
-
-module _ (v : ℕ) (t : Term) (ts : List Term) where
-  length_go : (b : Bool) → length (cond b ts (t ∷ ts)) ≤ length (t ∷ ts)
-  length_go true = omega arith
-  length_go false = omega arith
-
-past_length : (v : ℕ) (ts : List Term) → length (past ts v) ≤ length ts
-past_length v [] = omega arith
-past_length v (t ∷ ts) = length_go v t ts (t.variable == v)
-
-past_less : (v : ℕ) (t : Term) (ts : List Term) → t.variable ≡ v → length (past (t ∷ ts) v) < length (t ∷ ts)
-past_less v t ts e = rw (if_same t.variable v ts (t ∷ ts) e) (omega arith)
-
--- the first of one of two lists goes
-pub shorter : (a b : List Term) → (a ≡ [] → b ≡ [] → ⊥) → length (past a (least a b)) + length (past b (least a b)) < length a + length b
-shorter [] [] h = absurd (h refl refl)
-shorter [] (y ∷ ys) h = rw (if_same y.variable y.variable ys (y ∷ ys) refl) (omega arith)
-shorter (x ∷ xs) [] h = rw (if_same x.variable x.variable xs (x ∷ xs) refl) (omega arith)
-shorter (x ∷ xs) (y ∷ ys) h = elim (cases_lt y.variable x.variable) [
-  | inl lt ↦
-      let e : y.variable ≡ min x.variable y.variable = grind arith in
-      omega (arith, past_length (min x.variable y.variable) (x ∷ xs), past_less (min x.variable y.variable) y ys e)
-  | inr le ↦
-      let e : x.variable ≡ min x.variable y.variable = grind arith in
-      omega (arith, past_length (min x.variable y.variable) (y ∷ ys), past_less (min x.variable y.variable) x xs e)
-]
 
 pub least_below : (a b : List Term) (n : ℕ) → Rises n a → Rises n b → (a ≡ [] → b ≡ [] → ⊥) → least a b < VARIABLES
 least_below [] [] n h g ne = absurd (ne refl refl)

@@ -1,7 +1,6 @@
 -- What is a multiple of terms, a sum or a difference, from what is a sum with a multiple.
-use Rattle.std.proofs.Common.{◌≡◌, ◌∙◌, ℕ, zero, suc, ℤ, pos, negsuc, ◌*ℤ◌, neg_ℤ, List, [], ◌∷◌, length, replicate, set, Result, Ok, Err, refl, sym, ap, ap₂, subst, arith}
+use Rattle.std.proofs.Common.{◌≡◌, ◌∙◌, ℕ, ℤ, pos, negsuc, ◌*ℤ◌, neg_ℤ, List, [], ◌∷◌, set, Result, Ok, Err, refl, sym, ap, ap₂, subst, arith}
 use Rattle.std.proofs.lemmas.Int.{ints}
-use Rattle.std.proofs.Math.IntN.{+ℤ_idl}
 use Rattle.smallvec.specs.SmallVec.{SmallVec}
 use Rattle.pc_rows.specs.declared.row.TheConstants.{VARIABLES}
 use Rattle.pc_rows.specs.declared.terms.Term.{Term}
@@ -9,7 +8,7 @@ use Rattle.pc_rows.specs.Linear.{AllInRange, add_lists, scale_list, negate_list}
 use Rattle.pc_rows.specs.Substitution.{CoefficientsFit}
 use Rattle.pc_rows.specs.Terms.{Rises, TermsIff, dense}
 use Rattle.pc_rows.specs.Merges.{MultipleFits}
-use Rattle.pc_rows.proofs.Algebra.{add_comm, length-scale_list, scale_one}
+use Rattle.pc_rows.proofs.Algebra.{add_comm, add_zeros, length-scale_list, scale_one}
 use Rattle.pc_rows.proofs.TermLists.{dense_in_range, dense_none, length-dense}
 
 terms_iff : {E : Type 0} (r : Result (SmallVec Term) E) (P Q : Type 0) (cs ds : List ℤ) → (P → Q) → (Q → P) → cs ≡ ds → TermsIff r P cs → TermsIff r Q ds
@@ -43,12 +42,6 @@ pub differences_iff : {E : Type 0} (r : Result (SmallVec Term) E) (a b : List Te
     TermsIff r (AllInRange (add_lists (dense a) (negate_list (dense b)))) (add_lists (dense a) (negate_list (dense b)))
 differences_iff r a b k h one f =
     known_iff r (dense a) k (dense b) (negate_list (dense b)) (ap (λ z. scale_list z (dense b)) one ∙ scale_minus_one (dense b)) (negate_in_range (dense b) (dense_in_range 0 b h)) f
-
-add_zeros : (n : ℕ) (zs : List ℤ) → length zs ≡ n → add_lists (replicate n (pos 0)) zs ≡ zs
-add_zeros zero [] e = refl
-add_zeros zero (z ∷ zs) e = absurd (omega arith)
-add_zeros (suc n) [] e = absurd (omega arith)
-add_zeros (suc n) (z ∷ zs) e = ap₂ (λ x xs. x ∷ xs) (+ℤ_idl z) (add_zeros n zs (omega arith))
 
 -- no terms plus the multiple
 pub products_iff : {E : Type 0} (r : Result (SmallVec Term) E) (none b : List Term) (k : ℤ) → none ≡ [] →

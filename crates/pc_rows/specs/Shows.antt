@@ -3,7 +3,7 @@ use Rattle.std.specs.Prelude.{◌<◌, pos, negsuc, ◌≤ℤ◌, List, [], ◌�
 use Rattle.std.specs.List.{AllByRecursion}
 use Rattle.pc_rows.specs.declared.proof.Part.{Part}
 use Rattle.pc_rows.specs.Linear.{Linear, IsInRange, IsNumber, sum_of, scaled_by, negation}
-use Rattle.pc_rows.specs.Evidence.{Proof}
+use Rattle.pc_rows.specs.Evidence.{System, Proof}
 
 abbrev pub nothing_row : Linear
 nothing_row = record { constant = pos 0; coefficients = [] }
@@ -42,3 +42,12 @@ pub record TotalFits (premises : List Linear) (goal : Linear) (p : Proof) : Type
   pub negated_goal : IsInRange (negation goal)
   pub product : IsInRange (scaled_by p.goal (negation goal))
   pub parts : PartsFit premises (scaled_by p.goal (negation goal)) p.parts
+
+-- a proof shows the goal from the premises, and all that is computed for its total is in range
+pub record Proves (premises : List Linear) (goal : Linear) (p : Proof) : Type 0 where
+  pub shows : Shows premises goal p
+  pub fits : TotalFits premises goal p
+
+-- a proof is evidence for a system where it proves the goal from the premises
+abbrev pub IsEvidence : System → Proof → Type 0
+IsEvidence s p = Proves s.premises s.goal p

@@ -1,9 +1,10 @@
 //! Proofs that premises show a goal.
 
-ghost use Rattle.std.specs.Prelude.{◌≡◌, ◌≢◌, ◌<◌, pos, [], ◌∷◌, ◌++◌, length, slice_get, Some, IfOk, OnOk, OnErr};
+ghost use Rattle.std.specs.Prelude.{◌≡◌, ◌≢◌, ◌<◌, ◌≤◌, pos, [], ◌∷◌, ◌++◌, length, slice_get, Some, IfOk, OnOk, OnErr};
 ghost use Rattle.std.specs.List.{list_all};
 ghost use Rattle.pc_rows.specs.Checks.{is_usable, are_usable};
 ghost use Rattle.pc_rows.specs.Evidence.{IsAbove, IsParts, IsProof};
+ghost use Rattle.pc_rows.specs.Parts.{part_of, parts_from};
 
 use crate::number::Number;
 use crate::rows::NoMemory;
@@ -50,6 +51,19 @@ impl Parts {
         }
     }
 
+    /// The multipliers other than 0, each with its index. What is pushed later, and each copy, is
+    /// taken from `alloc` too.
+    pub fn of_multipliers(alloc: Global, multipliers: &[Number]) -> Result<Parts, NoMemory>
+        requires { length multipliers.now ≤ PREMISES }
+        ensures { IfOk result (λ parts. parts ≡ parts_from 0 multipliers.now) }
+    {
+        let mut parts = Parts::new(alloc);
+        for i in 0..multipliers.len() {
+            parts.add(i as u32, multipliers[i])?;
+        }
+        Ok(parts)
+    }
+
     /// How many parts there are.
     pub fn len(&self) -> usize
         ensures value { result ≡ length self.now }
@@ -79,6 +93,20 @@ impl Parts {
             Ok(()) => Ok(()),
             Err(_) => Err(NoMemory),
         }
+    }
+
+    /// Puts a part at the end, unless its multiplier is 0; its index is above those before it. After
+    /// a refusal the list is as before.
+    pub fn add(&mut self, index: u32, multiplier: Number) -> Result<(), NoMemory>
+        requires premise { index < PREMISES }
+        requires rising { IsAbove index self.old }
+        ensures ok { OnOk result (self.new ≡ self.old ++ part_of index multiplier) }
+        ensures err { OnErr result (self.new ≡ self.old) }
+    {
+        if multiplier.is_zero() {
+            return Ok(());
+        }
+        self.push(Part { index, multiplier })
     }
 
     /// Whether each part names one of the first `count` premises, with a multiplier of at least 0.

@@ -5,13 +5,12 @@ ghost use Rattle.pc_rows.specs.Points.{SumsFit};
 ghost use Rattle.pc_rows.specs.Linear.{InRange, dot, IsInRange, IsRow, coefficient, of_constant, with_coefficient, sum_of, difference_of, scaled_by, above_of, first_of, is_number, negation};
 ghost use Rattle.pc_rows.specs.Readers.{terms_of};
 ghost use Rattle.pc_rows.specs.Joins.{is_always, is_at_most};
-ghost use Rattle.pc_rows.specs.Checks.{is_never};
 ghost use Rattle.pc_rows.specs.Substitution.{never_row};
 
 use crate::number::{Number, Past};
 use crate::terms::{
-    Term, Terms, are_same, copied, differences, first, lookup, no_terms, opposites, plus_multiple,
-    products, put, sum_of_products, sums,
+    Term, Terms, are_same, copied, differences, first, lookup, no_terms, opposites, products, put,
+    sum_of_products, sums,
 };
 use std::alloc::Global;
 use std::marker::Model;
@@ -122,7 +121,7 @@ impl Row {
     }
 
     /// The coefficient at variable `v`, as a number.
-    fn number_at(&self, v: u32) -> Number
+    pub(crate) fn number_at(&self, v: u32) -> Number
         requires { v < VARIABLES }
         ensures value { result ≡ coefficient self.now v }
         ensures row { IsRow self.now }
@@ -199,21 +198,6 @@ impl Row {
         Ok(Row { constant, terms })
     }
 
-    /// The row plus `k` times `other`. `Past` exactly where a number of the multiple or of the sum
-    /// is not in range.
-    pub fn plus_times(&self, k: Number, other: &Row) -> Result<Row, Past>
-        ensures { OkIff result (IsInRange (scaled_by k other.now) × IsInRange (sum_of self.now (scaled_by k other.now))) (sum_of self.now (scaled_by k other.now)) }
-    {
-        let constant = self.constant.plus_product(k, other.constant)?;
-        let terms = plus_multiple(
-            self.alloc(),
-            self.terms.as_slice(),
-            k,
-            other.terms.as_slice(),
-        )?;
-        Ok(Row { constant, terms })
-    }
-
     /// The row `-r - 1`, which is met exactly where the row `r` is not. `Past` exactly where one
     /// of its numbers is not in range.
     pub fn negated(&self) -> Result<Row, Past>
@@ -272,13 +256,6 @@ impl Row {
         ensures { result ≡ is_always self.now }
     {
         self.is_number() && self.constant.is_at_least_zero()
-    }
-
-    /// Whether no state meets the row by its form: it has no variable, and a constant below 0.
-    pub(crate) fn is_never(&self) -> bool
-        ensures { result ≡ is_never self.now }
-    {
-        self.is_number() && self.constant.is_at_most(Number::new(-1))
     }
 
     /// Whether the row has the coefficients of `other`, and a constant that is not greater.

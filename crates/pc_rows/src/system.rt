@@ -10,6 +10,7 @@ use crate::number::Past;
 use crate::proof::{Parts, Proof};
 use crate::row::Row;
 use crate::rows::NoMemory;
+use crate::totals::Total;
 use sqlite_items::Items;
 use std::alloc::Global;
 use std::marker::Model;
@@ -107,12 +108,12 @@ impl System {
 /// The total of a proof: the negated goal times its multiplier, and then each premise that the
 /// proof names, times its multiplier, added in order. `Past` exactly where a number of the negated
 /// goal, of one of these products or of one of the sums in this order is not in range.
-pub fn total(s: &System, p: &Proof) -> Result<Row, Past>
+pub fn total(s: &System, p: &Proof) -> Result<Total, Past>
     requires { AllByRecursion (λ q. q.index < length s.now.premises) p.now.parts }
     ensures { OkIff result (TotalFits s.now.premises s.now.goal p.now) (total s.now.premises s.now.goal p.now) }
 {
     let start = s.goal().negated()?.times(p.goal())?;
-    with_parts(s, start, p.parts())
+    with_parts(s, Total::of_row(&start), p.parts())
 }
 
 /// Whether the proof shows the goal, and its total is computed in range.
@@ -128,19 +129,19 @@ fn is_contradiction(s: &System, p: &Proof) -> bool
     ensures { (result ≡ true) ↔ IsContradiction s.now.premises s.now.goal p.now }
 {
     match total(s, p) {
-        Ok(row) => row.is_never(),
+        Ok(total) => total.is_never(),
         Err(Past) => false,
     }
 }
 
-fn with_parts(s: &System, start: Row, parts: &Parts) -> Result<Row, Past>
+fn with_parts(s: &System, start: Total, parts: &Parts) -> Result<Total, Past>
     requires { AllByRecursion (λ q. q.index < length s.now.premises) parts.now }
     ensures { OkIff result (PartsFit s.now.premises start parts.now) (with_parts s.now.premises start parts.now) }
 {
     let mut sum = start;
     for i in 0..parts.len() {
         let part = parts.at(i);
-        sum = sum.plus_times(part.multiplier, s.premise(part.index as usize))?;
+        sum.add(part.multiplier, s.premise(part.index as usize))?;
     }
     Ok(sum)
 }
