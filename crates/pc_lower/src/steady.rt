@@ -26,14 +26,8 @@ pub fn is_steady(alloc: Global, g: &Graph, e: &Edge, r: &Row) -> Result<bool, Ca
     // what a graph keeps
     let _points = g.points();
     let mut rows = alone(alloc, g, e.from, r)?;
-    refresh(
-        alloc,
-        g,
-        false,
-        e.from + 1,
-        end_of_loop(g, e.from),
-        &mut rows,
-    )?;
+    let end = end_of_loop(g, e.from);
+    refresh(alloc, g, false, e.from + 1, end, &mut rows)?;
     let none = Rows::new(alloc);
     let one = single(alloc, r.copy())?;
     Ok(all_covered(rows_at(&rows, e.to), &one, e.test_rows(&none)))

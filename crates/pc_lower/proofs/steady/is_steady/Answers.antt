@@ -10,8 +10,8 @@ use Rattle.pc_lower.proofs.steady.is_steady.Goals as goal
 
 pub refresh-requires-clause-fresh : goal.refresh-requires-clause-fresh
 refresh-requires-clause-fresh c =
-    subst (IsFresh (unchecked c.args.g.now) c.end_of_loop.result) (sym c.in_ok-rows.ensures.rows)
-    (fresh_alone c.args.g.now c.points-points.ensures.kept.leads c.e.inside.from c.args.r.now c.end_of_loop.result c.end_of_loop.ensures.after c.end_of_loop.ensures.none)
+    subst (IsFresh (unchecked c.args.g.now) c.end_of_loop-end.result) (sym c.in_ok-rows.ensures.rows)
+    (fresh_alone c.args.g.now c.points-points.ensures.kept.leads c.e.inside.from c.args.r.now c.end_of_loop-end.result c.end_of_loop-end.ensures.after c.end_of_loop-end.ensures.none)
 
 pub returns : goal.returns
 returns c =
