@@ -20,7 +20,7 @@ joined-append a [] c = refl
 joined-append a (r ∷ b) c = joined-append (with_row a r) b c
 
 -- over a test and over an assertion rows stay as they are
-pub test_same : (own rows : List Linear) → back_all (Test own) rows ≡ rows
+test_same : (own rows : List Linear) → back_all (Test own) rows ≡ rows
 test_same own [] = refl
 test_same own (r ∷ rows) = ap (λ (z : List Linear). r ∷ z) (test_same own rows)
 
@@ -28,7 +28,7 @@ test_fits : (own rows : List Linear) → Each Fits (carries (Test own) rows)
 test_fits own [] = tt
 test_fits own (r ∷ rows) = (tt, test_fits own rows)
 
-pub check_fits : (own rows : List Linear) → Each Fits (carries (Check own) rows)
+check_fits : (own rows : List Linear) → Each Fits (carries (Check own) rows)
 check_fits own [] = tt
 check_fits own (r ∷ rows) = (tt, check_fits own rows)
 

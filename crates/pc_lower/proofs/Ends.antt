@@ -1,6 +1,5 @@
 -- The end of a loop: the number after the greatest source of an edge into the loop's head.
-use Rattle.std.proofs.Common.{◌≡◌, ◌∙◌, ℕ, zero, suc, ◌+◌, ◌<◌, ◌≤◌, ◌==◌, List, [], ◌∷◌, drop, length, set, sym, refl, ap, subst, cond, Bool, true, false, arith, Some, slice_get, slice_index_or, eq-eqb, inl, inr}
-use Rattle.std.specs.Prelude.{◌⊎◌}
+use Rattle.std.proofs.Common.{◌≡◌, ◌∙◌, ℕ, ◌+◌, ◌<◌, ◌≤◌, ◌==◌, List, [], ◌∷◌, drop, length, set, sym, refl, ap, subst, cond, Bool, true, false, arith, Some, slice_get, slice_index_or, eq-eqb}
 use Rattle.std.specs.List.{AllByRecursion as Each}
 use Rattle.std.proofs.lemmas.List.{get_or-set_other, drop_all}
 use Rattle.std.proofs.lemmas.Option.{slice_get-get_or, slice_get_within}
@@ -10,8 +9,7 @@ use Rattle.pc_flow.specs.Annotation.{rows_at}
 use Rattle.pc_flow.specs.Arc.{Arc}
 use Rattle.pc_flow.specs.Flow.{Flow}
 use Rattle.pc_flow.specs.Incidence.{leaving, entering, numbers_entering, AreAt}
-use Rattle.pc_flow.specs.Shape.{LeadsUp}
-use Rattle.pc_flow.proofs.Lists.{each_got, each_more}
+use Rattle.pc_flow.proofs.Lists.{each_more}
 use Rattle.pc_flow.proofs.Numbers.{numbers_are_theirs, numbers_long, edge_at_number}
 use Rattle.pc_lower.specs.Annotation.{is_head}
 use Rattle.pc_lower.specs.Fresh.{IsFresh, NoneReaches}

@@ -1,32 +1,26 @@
 -- Points that have what they need for the rows at the targets of their edges.
-use Rattle.std.proofs.Common.{◌≡◌, ◌∙◌, ℕ, suc, zero, ◌+◌, ◌<◌, ◌≤◌, List, [], ◌∷◌, ◌++◌, length, set, sym, refl, ap, subst, cond, Bool, true, false, arith, Err, length-set, drop, Some, slice_get, inl, inr}
+use Rattle.std.proofs.Common.{◌≡◌, ◌∙◌, ℕ, suc, zero, ◌+◌, ◌<◌, ◌≤◌, List, [], ◌∷◌, ◌++◌, length, set, sym, refl, ap, subst, cond, Bool, true, false, arith, inl, inr}
 use Rattle.std.specs.Prelude.{◌⊎◌, nat_lt}
 use Rattle.std.specs.List.{AllByRecursion as Each}
 use Rattle.std.proofs.lemmas.Bool.Decides.{nat_tests}
-use Rattle.std.proofs.lemmas.List.{get_or-set_same, get_or-set_other, get_or_past, drop_all}
-use Rattle.pc_rows.proofs.Adding.{drop_got}
+use Rattle.std.proofs.lemmas.List.{get_or-set_same, get_or-set_other, get_or_past}
 use Rattle.pc_rows.proofs.Joining.{each_join}
 use Rattle.pc_rows.specs.Linear.{Linear}
-use Rattle.pc_rows.specs.declared.rows.TheConstants.{ROWS}
 use Rattle.pc_flow.specs.declared.point.PointInfo.{PointInfo}
-use Rattle.pc_flow.specs.Arc.{Arc}
 use Rattle.pc_flow.specs.Flow.{Flow}
 use Rattle.pc_flow.specs.Shape.{LeadsUp}
 use Rattle.pc_lower.specs.declared.fault.CandidateFault.{CandidateFault}
-use Rattle.pc_lower.specs.declared.fault.CandidateFault.TheVariants.{Past, Full, NoMemory}
 use Rattle.pc_flow.specs.Annotation.{rows_at}
-use Rattle.pc_lower.specs.Annotation.{is_head, AreFew}
+use Rattle.pc_lower.specs.Annotation.{is_head}
 use Rattle.pc_flow.specs.Incidence.{leaving}
-use Rattle.pc_lower.specs.Need.{needed_at, at_heads, filled_below, need}
-use Rattle.pc_lower.specs.Operations.{Operation, Fits, IsFirstFault, Answers, edges_operations, point_operations}
+use Rattle.pc_lower.specs.Need.{needed_at, at_heads, need}
+use Rattle.pc_lower.specs.Operations.{Operation, Fits, IsFirstFault, edges_operations, point_operations}
 use Rattle.pc_lower.specs.Course.{operations_between}
-use Rattle.pc_lower.specs.Fresh.{IsFresh, IsRefreshed, RefreshIs, NoneReaches}
-use Rattle.pc_flow.proofs.Lists.{each_more}
-use Rattle.pc_lower.proofs.Agreeing.{Agree, each_leaving, AgreeAbove, agree_leaving, gathered_alike, operations_alike}
+use Rattle.pc_lower.specs.Fresh.{IsFresh}
+use Rattle.pc_lower.proofs.Agreeing.{AgreeAbove, agree_leaving, gathered_alike, operations_alike}
 use Rattle.pc_lower.proofs.Answering.{fault_after, fault_within}
 use Rattle.pc_lower.proofs.Filling.{apart}
 use Rattle.pc_lower.proofs.Meaning.{need_is}
-use Rattle.pc_lower.proofs.Variables.{each_set}
 
 -- the rows of heads stay as they are where another point gets rows
 pub heads_kept : (points : List PointInfo) (a : List (List Linear)) (p : ℕ) (rows : List Linear) → is_head points p ≡ false → at_heads points (set a p rows) ≡ at_heads points a
@@ -55,7 +49,7 @@ module _ (g : Flow) (leads : Each (LeadsUp g.points g.variables) g.edges) where
   needs_alike : (a b : ℕ → List Linear) (p : ℕ) → AgreeAbove g.points p a b → needed_at g.edges a p ≡ needed_at g.edges b p
   needs_alike a b p h = gathered_alike a b [] (leaving p g.edges) (agree_leaving g.points g.variables p a b g.edges leads h)
 
-  pub points_alike : (a b : ℕ → List Linear) (p : ℕ) → AgreeAbove g.points p a b → point_operations g a p ≡ point_operations g b p
+  points_alike : (a b : ℕ → List Linear) (p : ℕ) → AgreeAbove g.points p a b → point_operations g a p ≡ point_operations g b p
   points_alike a b p h =
       ap (λ (z : List Operation). cond (is_head g.points p) [] z) (operations_alike a b [] (leaving p g.edges) (agree_leaving g.points g.variables p a b g.edges leads h))
 

@@ -1,5 +1,5 @@
 -- Steps over a list, one after the other, and the operations by which they are taken.
-use Rattle.std.proofs.Common.{◌≡◌, ◌∙◌, subst, sym, refl, ap, List, [], ◌∷◌, ◌++◌, Result, Ok, Err, append_assoc}
+use Rattle.std.proofs.Common.{◌≡◌, ◌∙◌, subst, sym, refl, ap, List, [], ◌∷◌, ◌++◌, Result, Err, append_assoc}
 use Rattle.std.specs.List.{AllByRecursion as Each}
 use Rattle.pc_lower.specs.declared.fault.CandidateFault.{CandidateFault}
 use Rattle.pc_lower.specs.Operations.{Operation, Fits, Answers, after_all, operations_of_all}
@@ -28,11 +28,11 @@ module _ {S X : Type 0} (step : S → X → S) (os : S → X → List Operation)
 -- steps over two lists
 
 module _ {S X : Type 0} (step : S → X → S) (os : S → X → List Operation) where
-  pub after-append : (s : S) (xs ys : List X) → after_all step s (xs ++ ys) ≡ after_all step (after_all step s xs) ys
+  after-append : (s : S) (xs ys : List X) → after_all step s (xs ++ ys) ≡ after_all step (after_all step s xs) ys
   after-append s [] ys = refl
   after-append s (x ∷ xs) ys = after-append (step s x) xs ys
 
-  pub operations-append : (s : S) (xs ys : List X) → operations_of_all step os s (xs ++ ys) ≡ operations_of_all step os s xs ++ operations_of_all step os (after_all step s xs) ys
+  operations-append : (s : S) (xs ys : List X) → operations_of_all step os s (xs ++ ys) ≡ operations_of_all step os s xs ++ operations_of_all step os (after_all step s xs) ys
   operations-append s [] ys = refl
   operations-append s (x ∷ xs) ys = ap (λ (z : List Operation). os s x ++ z) (operations-append (step s x) xs ys) ∙ sym (append_assoc (os s x) (operations_of_all step os (step s x) xs) (operations_of_all step os (after_all step s (x ∷ xs)) ys))
 

@@ -1,37 +1,22 @@
 -- The rows that loops try, and the need at the end.
-use Rattle.std.proofs.Common.{◌≡◌, ◌∙◌, ℕ, suc, zero, ◌+◌, ◌<◌, ◌≤◌, ◌==◌, List, [], ◌∷◌, ◌++◌, length, set, sym, refl, ap, subst, cond, Bool, true, false, arith, map, drop, append-nil, append_assoc, Option, Some, None, slice_get, Err, Result, Ok, length-set, inl, inr}
-use Rattle.std.specs.Prelude.{◌⊎◌, IfSome}
+use Rattle.std.proofs.Common.{◌≡◌, ◌∙◌, ℕ, suc, zero, ◌+◌, ◌<◌, ◌≤◌, List, [], ◌∷◌, ◌++◌, length, sym, refl, ap, subst, cond, Bool, true, false, arith, map, drop, append-nil, append_assoc, Option, Some, None, slice_get, Err, Result, Ok}
+use Rattle.std.specs.Prelude.{IfSome}
 use Rattle.std.specs.List.{AllByRecursion as Each}
-use Rattle.std.proofs.lemmas.Bool.Decides.{eqb_tells}
-use Rattle.std.proofs.lemmas.List.{get_or_past, drop_all}
+use Rattle.std.proofs.lemmas.List.{drop_all}
 use Rattle.pc_rows.specs.Linear.{Linear}
-use Rattle.pc_rows.specs.declared.rows.TheConstants.{ROWS}
 use Rattle.pc_rows.specs.Joins.{joined}
 use Rattle.pc_rows.proofs.Adding.{drop_got}
-use Rattle.pc_rows.proofs.Joining.{each_join}
 use Rattle.pc_flow.specs.declared.point.PointInfo.{PointInfo}
-use Rattle.pc_flow.specs.Arc.{Arc}
-use Rattle.pc_flow.specs.Carry.{owes}
-use Rattle.pc_flow.specs.Exact.{PointRows}
 use Rattle.pc_flow.specs.Flow.{Flow}
-use Rattle.pc_flow.specs.Shape.{LeadsUp, IsHead}
 use Rattle.pc_lower.specs.declared.fault.CandidateFault.{CandidateFault}
 use Rattle.pc_lower.specs.declared.fault.CandidateFault.TheVariants.{Past, Full, NoMemory}
-use Rattle.pc_lower.specs.declared.mode.Mode.{Mode}
 use Rattle.pc_flow.specs.Annotation.{rows_at}
-use Rattle.pc_lower.specs.Annotation.{is_head, AreFew}
 use Rattle.pc_lower.specs.Candidate.{hint_at, hinted}
 use Rattle.pc_lower.specs.Course.{hint_at_operations, hint_operations}
 use Rattle.pc_lower.specs.Fresh.{HeadsAre}
-use Rattle.pc_flow.specs.Incidence.{leaving}
 use Rattle.pc_lower.specs.Need.{at_heads, filled_below, need}
-use Rattle.pc_lower.specs.Operations.{Operation, Joins, Fits, IsFirstFault, Answers, operations, operations_below, after_all, operations_of_all, carries, edges_operations}
-use Rattle.pc_lower.proofs.Agreeing.{is_the_head, each_leaving}
-use Rattle.pc_lower.proofs.Answering.{Left, left_all, left_over, left_next, answer_after, fault_after, fault_within}
-use Rattle.pc_lower.proofs.Meaning.{nothing_needed, none_leave}
-use Rattle.pc_lower.proofs.Freshness.{agree_need, fresh_fits}
-use Rattle.pc_lower.proofs.Ends.{fresh_apart}
-use Rattle.pc_lower.proofs.Variables.{each_set}
+use Rattle.pc_lower.specs.Operations.{Operation, Joins, Fits, Answers, operations, operations_below}
+use Rattle.pc_lower.proofs.Answering.{Left, left_all, left_over, answer_after, fault_within}
 
 -- ---- the rows that loops try
 

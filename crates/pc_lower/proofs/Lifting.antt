@@ -1,5 +1,5 @@
 -- Lifts of rows that are owed, and the operations by which they are found and joined.
-use Rattle.std.proofs.Common.{◌≡◌, ◌∙◌, ℕ, zero, suc, ◌+◌, ◌<◌, length, arith, List, [], ◌∷◌, ◌++◌, drop, sym, refl, ap, subst, cond, Bool, true, false, Err, Result, Some, slice_get, append_assoc, inl}
+use Rattle.std.proofs.Common.{◌≡◌, ◌∙◌, ℕ, zero, suc, ◌+◌, ◌<◌, length, arith, List, [], ◌∷◌, ◌++◌, drop, sym, refl, ap, subst, cond, Bool, true, false, Err, Result, Some, slice_get, inl}
 use Rattle.std.specs.Prelude.{◌&&◌}
 use Rattle.std.specs.List.{AllByRecursion as Each, list_all}
 use Rattle.pc_rows.specs.Linear.{Linear, IsInRange, difference_of}
@@ -10,11 +10,11 @@ use Rattle.pc_flow.specs.Arc.{Arc}
 use Rattle.pc_flow.specs.Carry.{test_rows}
 use Rattle.pc_flow.specs.Flow.{Flow}
 use Rattle.pc_lower.specs.declared.fault.CandidateFault.{CandidateFault}
-use Rattle.pc_lower.specs.declared.fault.CandidateFault.TheVariants.{Past, Full, NoMemory}
+use Rattle.pc_lower.specs.declared.fault.CandidateFault.TheVariants.{Past}
 use Rattle.pc_lower.specs.declared.mode.Mode.{Mode}
 use Rattle.pc_lower.specs.Candidate.{is_steady, tilted, lifted, with_owed}
 use Rattle.pc_lower.specs.Course.{steady_operations, tilt_operations, lifted_operations, owed_operations}
-use Rattle.pc_lower.specs.Operations.{Operation, Joins, Subtracts, Fits, IsFirstFault, Answers, after_all, operations_of_all}
+use Rattle.pc_lower.specs.Operations.{Operation, Joins, Subtracts, Fits, IsFirstFault, Answers}
 use Rattle.pc_lower.proofs.Answering.{left_all, refused, answer_after, fault_after}
 
 -- a test of all rows, row by row
@@ -30,7 +30,7 @@ all_fails test rows i r at fails so_far = sym (ap (λ (b : Bool). b && list_all 
 -- a row minus a row of the test, unless it is steady
 
 module _ (g : Flow) (e : Arc) (r t : Linear) (own more : List Linear) (is : own ≡ t ∷ more) where
-  pub tilt_unsettled : {A B : Type 0} (part : A) (value : B) (f : CandidateFault) → Answers (steady_operations g e.from r) part (Err f) → Answers (tilt_operations g e r own) value (Err f)
+  tilt_unsettled : {A B : Type 0} (part : A) (value : B) (f : CandidateFault) → Answers (steady_operations g e.from r) part (Err f) → Answers (tilt_operations g e r own) value (Err f)
   tilt_unsettled part value f answer =
       subst (λ (z : List Linear). Answers (tilt_operations g e r z) value (Err f)) (sym is)
       (refused (steady_operations g e.from r) (cond (is_steady g e r) [] (Subtracts r t ∷ [])) _ part value f (left_all _) answer)

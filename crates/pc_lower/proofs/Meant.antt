@@ -1,5 +1,5 @@
 -- The candidate is the one annotation that is meant: each step in words has one result, which the functions compute.
-use Rattle.std.proofs.Common.{◌≡◌, ◌≢◌, ◌∙◌, ℕ, zero, suc, ◌<◌, List, [], ◌∷◌, ◌++◌, length, drop, set, sym, refl, ap, subst, cond, Bool, true, false, arith, inl, inr, length-set, ◌==◌}
+use Rattle.std.proofs.Common.{◌≡◌, ◌∙◌, ℕ, zero, suc, ◌<◌, List, [], ◌∷◌, ◌++◌, length, drop, set, sym, refl, ap, subst, cond, Bool, true, false, arith, inl, inr, length-set, ◌==◌}
 use Rattle.std.specs.Prelude.{◌⊎◌}
 use Rattle.std.specs.List.{AllByRecursion as Each, list_all}
 use Rattle.std.proofs.lemmas.Bool.Decides.{eqb_tells}

@@ -2,7 +2,7 @@
 use Rattle.std.proofs.Common.{◌≡◌, ℕ, suc, zero, List, [], ◌∷◌, ◌++◌, length, map, drop, set, sym, subst, cond, Bool, true, false, Result, Ok, Err}
 use Rattle.std.specs.Prelude.{IfOk}
 use Rattle.std.specs.List.{AllByRecursion as Each}
-use Rattle.pc_rows.specs.Linear.{Linear, IsOver, difference_of, negation}
+use Rattle.pc_rows.specs.Linear.{Linear, IsOver, difference_of}
 use Rattle.pc_rows.specs.Joins.{is_covered, with_row, joined}
 use Rattle.pc_rows.proofs.Joining.{each_join, joined_each}
 use Rattle.pc_flow.specs.declared.point.PointInfo.{PointInfo}
@@ -89,13 +89,13 @@ module _ (g : Flow) (leads : Each (LeadsUp g.points g.variables) g.edges) (m : M
       let owed = owed_over g.variables e.what (rows_at a e.to) all.0.1.over (each_rows_at (Each (IsOver g.variables)) a e.to tt over) in
       edges_over a begun (with_edge_owed g m (rows_at a) begun rows e) edges over (all_over e begun rows (owes e.what (rows_at a e.to)) all.0.1.over k owed) all.1
 
-  pub turned_over : (heads : List (List Linear)) → AreOver g.variables heads → Each (IsOver g.variables) (turned g m h heads)
+  turned_over : (heads : List (List Linear)) → AreOver g.variables heads → Each (IsOver g.variables) (turned g m h heads)
   turned_over heads over =
       let need_over = below_over g leads (length g.points) (at_heads g.points heads) (heads_over g.variables g.points heads over) in
       let here = each_rows_at (Each (IsOver g.variables)) (need g heads) h tt need_over in
       edges_over (need g heads) (rows_at (need g heads) h) (rows_at (need g heads) h) (leaving h g.edges) need_over here (each_leaving (LeadsUp g.points g.variables) h g.edges leads)
 
-  pub turn_over : (heads : List (List Linear)) → AreOver g.variables heads → AreOver g.variables (turn g m h heads)
+  turn_over : (heads : List (List Linear)) → AreOver g.variables heads → AreOver g.variables (turn g m h heads)
   turn_over heads over = by (is_head g.points h)
     where
       by : (s : Bool) → AreOver g.variables (cond s (set heads h (turned g m h heads)) heads)

@@ -1,15 +1,8 @@
 -- Points that are brought up to date one after the other.
-use Rattle.std.proofs.Common.{◌≡◌, ◌∙◌, ℕ, suc, zero, ◌+◌, ◌<◌, ◌≤◌, List, [], ◌∷◌, ◌++◌, length, set, sym, refl, ap, subst, cond, Bool, true, false, arith, Err, length-set, drop, Some, slice_get, inl, inr}
-use Rattle.std.specs.Prelude.{◌⊎◌, nat_lt}
+use Rattle.std.proofs.Common.{◌≡◌, ◌∙◌, ℕ, suc, ◌≤◌, List, [], length, set, sym, ap, subst, true, false, arith, Err, length-set}
 use Rattle.std.specs.List.{AllByRecursion as Each}
-use Rattle.std.proofs.lemmas.Bool.Decides.{nat_tests}
-use Rattle.std.proofs.lemmas.List.{get_or-set_same, get_or-set_other, get_or_past, drop_all}
-use Rattle.pc_rows.proofs.Adding.{drop_got}
-use Rattle.pc_rows.proofs.Joining.{each_join}
 use Rattle.pc_rows.specs.Linear.{Linear}
 use Rattle.pc_rows.specs.declared.rows.TheConstants.{ROWS}
-use Rattle.pc_flow.specs.declared.point.PointInfo.{PointInfo}
-use Rattle.pc_flow.specs.Arc.{Arc}
 use Rattle.pc_flow.specs.Flow.{Flow}
 use Rattle.pc_flow.specs.Shape.{LeadsUp}
 use Rattle.pc_lower.specs.declared.fault.CandidateFault.{CandidateFault}
@@ -18,14 +11,9 @@ use Rattle.pc_flow.specs.Annotation.{rows_at}
 use Rattle.pc_lower.specs.Annotation.{is_head, AreFew}
 use Rattle.pc_flow.specs.Incidence.{leaving}
 use Rattle.pc_lower.specs.Need.{needed_at, at_heads, filled_below, need}
-use Rattle.pc_lower.specs.Operations.{Operation, Fits, IsFirstFault, Answers, edges_operations, point_operations}
+use Rattle.pc_lower.specs.Operations.{Fits, IsFirstFault, Answers, edges_operations}
 use Rattle.pc_lower.specs.Course.{operations_between}
-use Rattle.pc_lower.specs.Fresh.{IsFresh, IsRefreshed, RefreshIs, NoneReaches}
-use Rattle.pc_flow.proofs.Lists.{each_more}
-use Rattle.pc_lower.proofs.Agreeing.{Agree, each_leaving, AgreeAbove, agree_leaving, gathered_alike, operations_alike}
-use Rattle.pc_lower.proofs.Answering.{fault_after, fault_within}
-use Rattle.pc_lower.proofs.Filling.{apart}
-use Rattle.pc_lower.proofs.Meaning.{need_is}
+use Rattle.pc_lower.specs.Fresh.{IsFresh, IsRefreshed, RefreshIs}
 use Rattle.pc_lower.proofs.Variables.{each_set}
 use Rattle.pc_lower.proofs.Freshness.{heads_kept, fresh_head, fresh_filled, fault_here}
 

@@ -1,37 +1,25 @@
 -- Turns one after the other, and rounds of them.
-use Rattle.std.proofs.Common.{◌≡◌, ◌∙◌, ℕ, suc, zero, ◌+◌, ◌<◌, ◌≤◌, ◌==◌, List, [], ◌∷◌, ◌++◌, length, set, sym, refl, ap, subst, cond, Bool, true, false, arith, map, drop, append-nil, append_assoc, Option, Some, None, slice_get, Err, Result, Ok, length-set, inl, inr}
-use Rattle.std.specs.Prelude.{◌⊎◌, IfSome}
+use Rattle.std.proofs.Common.{◌≡◌, ◌∙◌, ℕ, suc, zero, ◌≤◌, List, [], ◌++◌, length, set, sym, refl, ap, subst, cond, Bool, true, false, arith, Err, Ok, length-set}
 use Rattle.std.specs.List.{AllByRecursion as Each}
-use Rattle.std.proofs.lemmas.Bool.Decides.{eqb_tells}
-use Rattle.std.proofs.lemmas.List.{get_or_past, drop_all}
+use Rattle.std.proofs.lemmas.List.{get_or_past}
 use Rattle.pc_rows.specs.Linear.{Linear}
-use Rattle.pc_rows.specs.declared.rows.TheConstants.{ROWS}
-use Rattle.pc_rows.specs.Joins.{joined}
-use Rattle.pc_rows.proofs.Adding.{drop_got}
-use Rattle.pc_rows.proofs.Joining.{each_join}
-use Rattle.pc_flow.specs.declared.point.PointInfo.{PointInfo}
 use Rattle.pc_flow.specs.Arc.{Arc}
-use Rattle.pc_flow.specs.Carry.{owes}
-use Rattle.pc_flow.specs.Exact.{PointRows}
 use Rattle.pc_flow.specs.Flow.{Flow}
-use Rattle.pc_flow.specs.Shape.{LeadsUp, IsHead}
+use Rattle.pc_flow.specs.Shape.{LeadsUp}
 use Rattle.pc_lower.specs.declared.fault.CandidateFault.{CandidateFault}
 use Rattle.pc_lower.specs.declared.fault.CandidateFault.TheVariants.{Past, Full, NoMemory}
 use Rattle.pc_lower.specs.declared.mode.Mode.{Mode}
 use Rattle.pc_flow.specs.Annotation.{rows_at}
 use Rattle.pc_lower.specs.Annotation.{is_head, AreFew}
-use Rattle.pc_lower.specs.Candidate.{with_owed, with_edge_owed, turned_from, turned, turn, turns_below, rounds, hinted}
-use Rattle.pc_lower.specs.Course.{owed_operations, edge_owed_operations, edges_carries, turned_from_operations, turned_operations, turn_operations, turns_operations, rounds_operations, hint_operations, operations_between, operations_after}
-use Rattle.pc_lower.specs.Fresh.{IsFresh, RefreshIs, NoneReaches, Stands, TurnIs, RoundIs, HeadsAre}
+use Rattle.pc_lower.specs.Candidate.{turned_from, turned, turn, turns_below, rounds}
+use Rattle.pc_lower.specs.Course.{turned_from_operations, turned_operations, turn_operations, turns_operations, rounds_operations, operations_between}
+use Rattle.pc_lower.specs.Fresh.{IsFresh, Stands, TurnIs, RoundIs, HeadsAre}
 use Rattle.pc_flow.specs.Incidence.{leaving}
-use Rattle.pc_lower.specs.Need.{at_heads, filled_below, need}
-use Rattle.pc_lower.specs.Operations.{Operation, Joins, Fits, IsFirstFault, Answers, operations, operations_below, after_all, operations_of_all, carries, edges_operations}
-use Rattle.pc_lower.proofs.Agreeing.{is_the_head, each_leaving}
-use Rattle.pc_lower.proofs.Answering.{Left, left_all, left_over, left_next, answer_after, fault_after, fault_within}
+use Rattle.pc_lower.specs.Need.{at_heads, filled_below}
+use Rattle.pc_lower.specs.Operations.{Operation, Fits, edges_operations}
+use Rattle.pc_lower.proofs.Agreeing.{each_leaving}
+use Rattle.pc_lower.proofs.Answering.{Left, left_all, left_over, fault_within}
 use Rattle.pc_lower.proofs.Meaning.{nothing_needed, none_leave}
-use Rattle.pc_lower.proofs.Freshness.{agree_need, fresh_fits}
-use Rattle.pc_lower.proofs.Ends.{fresh_apart}
-use Rattle.pc_lower.proofs.Variables.{each_set}
 use Rattle.pc_lower.proofs.Turning.{heads_set}
 
 -- turns depend on the rows of the heads alone
@@ -64,7 +52,7 @@ module _ (g : Flow) (m : Mode) where
           ∙ sym (heads_set g.points b p (turned g m p b) also head)
       by false head = same
 
-  pub turns_same : (n : ℕ) (a b : List (List Linear)) → length a ≡ length g.points → length b ≡ length g.points → at_heads g.points a ≡ at_heads g.points b →
+  turns_same : (n : ℕ) (a b : List (List Linear)) → length a ≡ length g.points → length b ≡ length g.points → at_heads g.points a ≡ at_heads g.points b →
       (at_heads g.points (turns_below g m n a) ≡ at_heads g.points (turns_below g m n b)) × (turns_operations g m n a ≡ turns_operations g m n b)
   turns_same zero a b long also same = (same, refl)
   turns_same (suc n) a b long also same =
@@ -89,7 +77,7 @@ module _ (g : Flow) (m : Mode) where
     pub value : at_heads g.points (turns_below g m h rows) ≡ at_heads g.points (turns_below g m (length g.points) old)
     pub left : Left (turns_operations g m h rows) (turns_operations g m (length g.points) old)
 
-  pub fresh_past : Each (LeadsUp g.points g.variables) g.edges → (a : List (List Linear)) → length a ≡ length g.points → IsFresh g (length g.points) a
+  fresh_past : Each (LeadsUp g.points g.variables) g.edges → (a : List (List Linear)) → length a ≡ length g.points → IsFresh g (length g.points) a
   fresh_past leads a long = record {
     rows = λ p le other. get_or_past a p [] (omega arith) ∙ sym (nothing_needed g.points g.variables p g.edges (rows_at a) leads le);
     fit = λ p le. by p (is_head g.points p)

@@ -1,5 +1,5 @@
 -- A graph with the rows of its assertions or without.
-use Rattle.std.proofs.Common.{◌≡◌, ◌∙◌, ℕ, zero, suc, ◌==◌, List, [], ◌∷◌, length, map, refl, sym, ap, cond, Bool, true, false, Some, slice_get}
+use Rattle.std.proofs.Common.{◌≡◌, ◌∙◌, ℕ, zero, suc, ◌==◌, List, [], ◌∷◌, length, map, refl, ap, cond, Bool, true, false, Some, slice_get}
 use Rattle.std.specs.List.{AllByRecursion as Each}
 use Rattle.pc_rows.specs.Linear.{Linear}
 use Rattle.pc_flow.specs.declared.point.PointInfo.{PointInfo}

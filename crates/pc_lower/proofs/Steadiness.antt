@@ -1,5 +1,5 @@
 -- The test whether a row is steady.
-use Rattle.std.proofs.Common.{◌≡◌, ◌∙◌, ℕ, suc, zero, ◌<◌, ◌≤◌, ◌≢◌, List, [], ◌∷◌, ◌++◌, length, map, sym, refl, ap, subst, cond, Bool, true, false, arith, Err, inl, inr}
+use Rattle.std.proofs.Common.{◌≡◌, ◌∙◌, ℕ, suc, zero, ◌<◌, ◌≤◌, ◌≢◌, List, [], ◌∷◌, ◌++◌, length, map, sym, refl, ap, subst, cond, Bool, true, false, arith, inl, inr}
 use Rattle.std.specs.Prelude.{◌⊎◌}
 use Rattle.std.specs.List.{AllByRecursion as Each, list_all}
 use Rattle.std.proofs.lemmas.List.{get_or-set_other}
@@ -15,17 +15,15 @@ use Rattle.pc_flow.specs.Carry.{test_rows}
 use Rattle.pc_flow.specs.Flow.{Flow}
 use Rattle.pc_flow.specs.Shape.{LeadsUp, IsHead}
 use Rattle.pc_flow.proofs.Lists.{each_more}
-use Rattle.pc_lower.specs.declared.fault.CandidateFault.{CandidateFault}
-use Rattle.pc_lower.specs.declared.fault.CandidateFault.TheVariants.{Past, Full, NoMemory}
 use Rattle.pc_flow.specs.Annotation.{rows_at}
 use Rattle.pc_lower.specs.Annotation.{is_head, no_rows, AreFew}
 use Rattle.pc_lower.specs.Candidate.{alone, is_steady}
 use Rattle.pc_lower.specs.Unchecked.{unchecked, unasserted, unasserted_arc}
 use Rattle.pc_lower.specs.Course.{operations_between, steady_operations}
-use Rattle.pc_lower.specs.Fresh.{IsFresh, IsRefreshed, RefreshIs, NoneReaches}
+use Rattle.pc_lower.specs.Fresh.{IsFresh, IsRefreshed, NoneReaches}
 use Rattle.pc_flow.specs.Incidence.{leaving}
 use Rattle.pc_lower.specs.Need.{demanded, gathered, filled_below, need}
-use Rattle.pc_lower.specs.Operations.{Fits, Answers, carries, edges_operations}
+use Rattle.pc_lower.specs.Operations.{Fits, carries, edges_operations}
 use Rattle.pc_lower.proofs.Agreeing.{each_both, each_leaving, is_the_head}
 use Rattle.pc_lower.proofs.Meaning.{need_is}
 use Rattle.pc_lower.proofs.Freshness.{fresh_is_need, fresh_fits}
@@ -96,14 +94,6 @@ module _ (g : Flow) (leads : Each (LeadsUp g.points g.variables) g.edges) (h : �
       by p false fit = fit
 
   module _ (low : ℕ) (next : low ≡ suc h) (new : List (List Linear)) where
-    pub steady_refused : {A : Type 0} (value : A) (f : CandidateFault) → RefreshIs (unchecked g) low (alone g h r) (Err f) new → Answers (steady_operations g h r) value (Err f)
-    steady_refused value f refused = by f (subst (λ (m : ℕ). RefreshIs (unchecked g) m (alone g h r) (Err f) new) next refused)
-      where
-        by : (f : CandidateFault) → RefreshIs (unchecked g) (suc h) (alone g h r) (Err f) new → Answers (steady_operations g h r) value (Err f)
-        by Past refused = refused
-        by Full refused = refused
-        by NoMemory refused = tt
-
     pub steady_done : IsRefreshed (unchecked g) low (alone g h r) new → (e : Arc) → e.from ≡ h → LeadsUp g.points g.variables e → (b : Bool) →
         b ≡ list_all (λ x. is_covered x (r ∷ test_rows e.what)) (rows_at new e.to) → Each Fits (steady_operations g e.from r) × (b ≡ is_steady g e r)
     steady_done done e from up b is =

@@ -1,5 +1,5 @@
 -- With tame numbers a row that is owed is lifted within the range.
-use Rattle.std.proofs.Common.{◌≡◌, ℕ, suc, zero, ◌+◌, ◌^◌, ◌<◌, ◌≤◌, List, [], ◌∷◌, ◌++◌, length, drop, map, sym, refl, ap, subst, cond, Bool, true, false, arith, lit<, lit≤, ◌+ℤ◌, neg_ℤ, pos, inl, inr}
+use Rattle.std.proofs.Common.{◌≡◌, ℕ, suc, zero, ◌+◌, ◌^◌, ◌<◌, ◌≤◌, List, [], ◌∷◌, length, drop, map, sym, refl, ap, subst, cond, Bool, true, false, arith, lit<, lit≤, ◌+ℤ◌, neg_ℤ, pos, inl, inr}
 use Rattle.std.specs.Prelude.{◌⊎◌}
 use Rattle.std.specs.List.{AllByRecursion as Each}
 use Rattle.pc_rows.specs.Linear.{Linear, IsInRange, difference_of, add_lists, negate_list}
@@ -17,7 +17,7 @@ use Rattle.pc_flow.specs.Flow.{Flow}
 use Rattle.pc_flow.specs.Shape.{IsHead, LeadsUp}
 use Rattle.pc_lower.specs.declared.mode.Mode.{Mode}
 use Rattle.pc_lower.specs.declared.mode.Mode.TheVariants.{Hint, Plain, Tilt1, Tilt2, Escape}
-use Rattle.pc_lower.specs.Annotation.{is_head, no_rows}
+use Rattle.pc_lower.specs.Annotation.{no_rows}
 use Rattle.pc_lower.specs.Candidate.{alone, is_steady}
 use Rattle.pc_lower.specs.Course.{operations_between, steady_operations, tilt_operations, escape_operations, lift_operations, lifted_operations}
 use Rattle.pc_lower.specs.Need.{need}

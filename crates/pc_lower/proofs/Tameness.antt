@@ -47,7 +47,7 @@ gathered-longer a rows (e ∷ edges) =
     omega arith
 
 -- where all that is gathered is not too much, no join has a row too many
-pub edges_fit : (a : PointRows) (rows : List Linear) (edges : List Arc) → Each (λ e. Each Fits (carries e.what (a e.to))) edges → length (gathered a rows edges) ≤ ROWS →
+edges_fit : (a : PointRows) (rows : List Linear) (edges : List Arc) → Each (λ e. Each Fits (carries e.what (a e.to))) edges → length (gathered a rows edges) ≤ ROWS →
     Each Fits (edges_operations a rows edges)
 edges_fit a rows [] h most = tt
 edges_fit a rows (e ∷ edges) h most =

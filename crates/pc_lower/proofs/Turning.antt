@@ -1,13 +1,9 @@
 -- Turns of heads, with rows of the points that are up to date.
-use Rattle.std.proofs.Common.{◌≡◌, ◌∙◌, ℕ, suc, zero, ◌+◌, ◌<◌, ◌≤◌, ◌==◌, List, [], ◌∷◌, ◌++◌, length, set, sym, refl, ap, subst, cond, Bool, true, false, arith, map, drop, append-nil, append_assoc, Option, Some, None, slice_get, Err, Result, Ok, length-set, inl, inr}
-use Rattle.std.specs.Prelude.{◌⊎◌, IfSome}
+use Rattle.std.proofs.Common.{◌≡◌, ◌∙◌, ℕ, suc, zero, ◌<◌, ◌≤◌, List, [], ◌∷◌, ◌++◌, length, set, sym, refl, ap, subst, cond, Bool, true, arith, Err, length-set, inl, inr}
+use Rattle.std.specs.Prelude.{◌⊎◌}
 use Rattle.std.specs.List.{AllByRecursion as Each}
-use Rattle.std.proofs.lemmas.Bool.Decides.{eqb_tells}
-use Rattle.std.proofs.lemmas.List.{get_or_past, drop_all}
 use Rattle.pc_rows.specs.Linear.{Linear}
 use Rattle.pc_rows.specs.declared.rows.TheConstants.{ROWS}
-use Rattle.pc_rows.specs.Joins.{joined}
-use Rattle.pc_rows.proofs.Adding.{drop_got}
 use Rattle.pc_rows.proofs.Joining.{each_join}
 use Rattle.pc_flow.specs.declared.point.PointInfo.{PointInfo}
 use Rattle.pc_flow.specs.Arc.{Arc}
@@ -20,15 +16,14 @@ use Rattle.pc_lower.specs.declared.fault.CandidateFault.TheVariants.{Past, Full,
 use Rattle.pc_lower.specs.declared.mode.Mode.{Mode}
 use Rattle.pc_flow.specs.Annotation.{rows_at}
 use Rattle.pc_lower.specs.Annotation.{is_head, AreFew}
-use Rattle.pc_lower.specs.Candidate.{with_owed, with_edge_owed, turned_from, turned, turn, turns_below, rounds, hinted}
-use Rattle.pc_lower.specs.Course.{owed_operations, edge_owed_operations, edges_carries, turned_from_operations, turned_operations, turn_operations, turns_operations, rounds_operations, hint_operations, operations_between, operations_after}
-use Rattle.pc_lower.specs.Fresh.{IsFresh, RefreshIs, NoneReaches, Stands, TurnIs, RoundIs, HeadsAre}
+use Rattle.pc_lower.specs.Candidate.{with_owed, with_edge_owed, turned_from, turned}
+use Rattle.pc_lower.specs.Course.{owed_operations, edge_owed_operations, edges_carries, turned_from_operations, turned_operations, operations_between, operations_after}
+use Rattle.pc_lower.specs.Fresh.{IsFresh, RefreshIs, NoneReaches, Stands, TurnIs}
 use Rattle.pc_flow.specs.Incidence.{leaving}
 use Rattle.pc_lower.specs.Need.{at_heads, filled_below, need}
-use Rattle.pc_lower.specs.Operations.{Operation, Joins, Fits, IsFirstFault, Answers, operations, operations_below, after_all, operations_of_all, carries, edges_operations}
+use Rattle.pc_lower.specs.Operations.{Operation, Fits, Answers, after_all, operations_of_all, carries}
 use Rattle.pc_lower.proofs.Agreeing.{is_the_head, each_leaving}
-use Rattle.pc_lower.proofs.Answering.{Left, left_all, left_over, left_next, answer_after, fault_after, fault_within}
-use Rattle.pc_lower.proofs.Meaning.{nothing_needed, none_leave}
+use Rattle.pc_lower.proofs.Answering.{fault_after, fault_within}
 use Rattle.pc_lower.proofs.Freshness.{agree_need, fresh_fits}
 use Rattle.pc_lower.proofs.Ends.{fresh_apart}
 use Rattle.pc_lower.proofs.Variables.{each_set}
@@ -98,7 +93,7 @@ module _ (g : Flow) (leads : Each (LeadsUp g.points g.variables) g.edges) (m : M
   here_alike : rows_at mid h ≡ rows_at (need g mid) h
   here_alike = (agree_need g leads mid long h fresh).heads h head
 
-  pub turned_is : turned_from g m h (rows_at mid) ≡ turned g m h old
+  turned_is : turned_from g m h (rows_at mid) ≡ turned g m h old
   turned_is =
       turned_alike g m h (rows_at mid) (rows_at (need g mid)) here_alike targets_alike ∙ ap (λ (z : List (List Linear)). turned_from g m h (rows_at z)) same_need
 

@@ -1,5 +1,5 @@
 -- Without loops the candidate of every mode is the need.
-use Rattle.std.proofs.Common.{◌≡◌, ℕ, zero, suc, List, [], ◌∷◌, ◌++◌, length, cond, Bool, false, refl, sym, subst}
+use Rattle.std.proofs.Common.{ℕ, zero, suc, List, [], ◌∷◌, ◌++◌, length, cond, Bool, sym, subst}
 use Rattle.std.specs.List.{AllByRecursion as Each}
 use Rattle.pc_rows.specs.Linear.{Linear}
 use Rattle.pc_rows.proofs.Joining.{each_join}
@@ -11,8 +11,8 @@ use Rattle.pc_lower.specs.declared.rounds.TheConstants.{ROUNDS}
 use Rattle.pc_lower.specs.Annotation.{NoHeads, no_rows}
 use Rattle.pc_lower.specs.Candidate.{turned, turn, turns_below, heads_by}
 use Rattle.pc_lower.specs.Need.{need}
-use Rattle.pc_lower.specs.Tame.{AreTame, IsTame}
-use Rattle.pc_lower.specs.TameCourse.{rows_after, tested_lists, turn_lists, turns_lists, rounds_lists, heads_lists, IsTameFor, IsTheNeedAlone, CandidatesAreNeeds}
+use Rattle.pc_lower.specs.Tame.{AreTame}
+use Rattle.pc_lower.specs.TameCourse.{rows_after, tested_lists, turn_lists, turns_lists, rounds_lists, heads_lists, CandidatesAreNeeds}
 use Rattle.pc_lower.proofs.Meaning.{need_is_free}
 use Rattle.pc_lower.proofs.Paying.{no_head}
 

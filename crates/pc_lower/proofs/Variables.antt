@@ -1,5 +1,5 @@
 -- Which variables the rows of a need have.
-use Rattle.std.proofs.Common.{◌≡◌, Some, ℕ, suc, zero, ◌≤◌, List, [], ◌∷◌, length, set, sym, refl, subst, cond, Bool, true, false, arith}
+use Rattle.std.proofs.Common.{◌≡◌, ℕ, suc, zero, ◌≤◌, List, [], ◌∷◌, length, set, sym, refl, subst, cond, Bool, true, false, arith}
 use Rattle.std.specs.Prelude.{not, filter, slice_get, IfSome}
 use Rattle.std.specs.List.{AllByRecursion as Each}
 use Rattle.pc_rows.specs.Linear.{Linear, IsOver, first_of}

@@ -1,7 +1,7 @@
 use Rattle.std.proofs.Common.{◌≡◌, ◌++◌, ◌∷◌, [], arith, rules}
 use Rattle.std.proofs.lemmas.Result.{err_from_is_err_and}
 use Rattle.pc_lower.specs.Candidate.{hinted}
-use Rattle.pc_lower.proofs.Hinting.{hints_none, hints_next, hints_refused, hints_all}
+use Rattle.pc_lower.proofs.Hinting.{hints_next, hints_refused, hints_all}
 use Rattle.pc_lower.proofs.candidates.hinted.Goals as goal
 
 pub returns-in_err-rows : goal.returns-in_err-rows

@@ -1,7 +1,7 @@
-use Rattle.std.proofs.Common.{◌≡◌, arith, length, rules}
+use Rattle.std.proofs.Common.{arith, length}
 use Rattle.pc_flow.specs.Incidence.{entering}
 use Rattle.pc_flow.proofs.Entries.{edge_within}
-use Rattle.pc_lower.proofs.Ends.{ends_none, ends_next, ends_all, entering_within, entering_there, entering_done}
+use Rattle.pc_lower.proofs.Ends.{ends_next, ends_all, entering_within, entering_there, entering_done}
 use Rattle.pc_lower.proofs.refresh.end_of_loop.Goals as goal
 
 pub edge-requires : goal.edge-requires

@@ -1,7 +1,6 @@
-use Rattle.std.proofs.Common.{◌≡◌, ◌∙◌, ◌<◌, length, true, subst, sym, ap, arith, rules, ℕ}
+use Rattle.std.proofs.Common.{◌≡◌, ◌∙◌, ap, arith, rules}
 use Rattle.std.proofs.lemmas.Result.{err_from_is_err_and}
 use Rattle.pc_flow.specs.Annotation.{rows_at}
-use Rattle.pc_flow.specs.Incidence.{leaving}
 use Rattle.pc_flow.specs.Shape.{LeadsUp}
 use Rattle.pc_flow.proofs.Entries.{edge_within}
 use Rattle.pc_flow.proofs.Lists.{each_got}
