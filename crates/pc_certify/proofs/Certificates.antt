@@ -1,5 +1,5 @@
 -- The certificate of the alternatives of a graph.
-use Rattle.std.proofs.Common.{◌≤◌, List, length, arith}
+use Rattle.std.proofs.Common.{List, length, arith}
 use Rattle.std.specs.List.{AllByRecursion}
 use Rattle.pc_flow.specs.Flow.{Flow}
 use Rattle.pc_flow.specs.Shape.{IsGraph}

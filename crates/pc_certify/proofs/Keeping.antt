@@ -1,9 +1,9 @@
 -- What is kept after some candidates, and the alternatives of a graph.
-use Rattle.std.proofs.Common.{◌≡◌, ◌<◌, ◌≤◌, List, [], ◌∷◌, ◌++◌, length, map, refl, sym, ap, subst, ◌∙◌, arith, inl, inr, Option, Some, None, Result, Ok, Err}
-use Rattle.std.specs.Prelude.{◌⊎◌, IfOk}
+use Rattle.std.proofs.Common.{◌≡◌, ◌≤◌, List, [], ◌∷◌, length, map, refl, sym, ap, subst, ◌∙◌, arith, inl, inr, Option, Some, None, Result, Ok, Err}
+use Rattle.std.specs.Prelude.{IfOk}
 use Rattle.std.specs.List.{AllByRecursion as Each}
 use Rattle.pc_rows.specs.declared.rows.NoMemory.{NoMemory}
-use Rattle.pc_rows.specs.Linear.{Linear, State, MeetsAll, MeetsSome}
+use Rattle.pc_rows.specs.Linear.{State, MeetsAll, MeetsSome}
 use Rattle.pc_flow.specs.Annotation.{Annotation, rows_at}
 use Rattle.pc_flow.specs.Flow.{Flow}
 use Rattle.pc_flow.proofs.Lists.{each_more}
@@ -15,9 +15,8 @@ use Rattle.pc_lower.specs.Tame.{AreTame, IsTame}
 use Rattle.pc_lower.specs.TameCourse.{IsTameFor}
 use Rattle.pc_lower.proofs.Meaning.{need_is_free}
 use Rattle.pc_certificate.specs.declared.certificate.Annotated.{Annotated}
-use Rattle.pc_certificate.specs.Certificate.{entry_rows, condition_of}
+use Rattle.pc_certificate.specs.Certificate.{entry_rows}
 use Rattle.pc_certify.specs.Candidates.{Candidate, graph_need, of_need, of_mode, IsTried, IsPromised}
-use Rattle.pc_certify.specs.Claims.{claim}
 use Rattle.pc_certify.specs.Selecting.{AreApart}
 use Rattle.pc_certify.specs.Inferring.{HasNone, IsChosen, ChoiceIs, Takes, IsKept, AreAlternatives}
 use Rattle.pc_certify.proofs.Selecting.{MeetsOne, selects_each, selects_long, selects_some, selects_keeps, selects_takes, selects_apart}

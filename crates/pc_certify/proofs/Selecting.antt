@@ -1,11 +1,10 @@
 -- What stays of the kept alternatives when a further one is selected.
-use Rattle.std.proofs.Common.{◌≡◌, ◌+◌, ◌≤◌, List, [], ◌∷◌, ◌++◌, length, map, sym, ap, subst, ◌∙◌, arith, inl, inr, length-append}
+use Rattle.std.proofs.Common.{◌≡◌, ◌+◌, ◌≤◌, List, [], ◌∷◌, ◌++◌, length, sym, ap, subst, ◌∙◌, arith, inl, inr, length-append}
 use Rattle.std.specs.List.{AllByRecursion as Each}
 use Rattle.pc_rows.specs.Linear.{State, MeetsAll}
 use Rattle.pc_rows.proofs.Joining.{each_join}
 use Rattle.pc_flow.specs.Annotation.{rows_at}
 use Rattle.pc_flow.specs.Lists.{AnyOf}
-use Rattle.pc_flow.proofs.Lists.{each_more}
 use Rattle.pc_entail.proofs.Finding.{shown_rows_are_met}
 use Rattle.pc_certificate.specs.declared.certificate.Annotated.{Annotated}
 use Rattle.pc_certify.specs.Selecting.{IsNeedless, IsNotNeedless, Without, Selects, AreApart}
