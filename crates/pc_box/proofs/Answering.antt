@@ -20,7 +20,7 @@ use Rattle.pc_domain.proofs.Picking.{picked_in}
 use Rattle.pc_domain.proofs.Places.{same_items}
 use Rattle.pc_box.specs.Boxes.{Box, join_of, rows_of}
 use Rattle.pc_box.specs.Forward.{after_of}
-use Rattle.pc_box.specs.Views.{view_of, box_of, box_says, boundless}
+use Rattle.pc_box.specs.Views.{view_of, box_of, box_says}
 use Rattle.pc_box.specs.BoxAt.{hull_over, boxes_to, boxes_of, box_at}
 use Rattle.pc_box.specs.Laws.{FoldIsBoxAt, RowsAreBoxRows}
 use Rattle.pc_box.proofs.Viewing.{box_view}

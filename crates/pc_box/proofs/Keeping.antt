@@ -1,5 +1,5 @@
 -- Numbers that are kept where they are in range.
-use Rattle.std.proofs.Common.{◌≡◌, ℤ, ◌+ℤ◌, ◌*ℤ◌, Bool, true, false, cond, Option, Some, None, refl}
+use Rattle.std.proofs.Common.{◌≡◌, ℤ, ◌+ℤ◌, ◌*ℤ◌, Bool, true, false, cond, Some, None, refl}
 use Rattle.pc_rows.specs.Linear.{InRange, in_range}
 use Rattle.pc_rows.proofs.Ranges.{in_is, is_in}
 use Rattle.pc_box.specs.Forms.{kept, kept_product}

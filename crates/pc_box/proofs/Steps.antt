@@ -1,12 +1,12 @@
 -- What passes an edge is in what the edge makes of a box.
-use Rattle.std.proofs.Common.{◌≡◌, ◌≢◌, ◌∙◌, ℕ, zero, suc, ◌<◌, ◌≤◌, max, ℤ, pos, ◌+ℤ◌, Bool, true, false, cond, List, [], ◌∷◌, length, get_or, Some, None, refl, sym, ap, subst, arith, inl, inr}
+use Rattle.std.proofs.Common.{◌≡◌, ◌∙◌, ℕ, zero, suc, ◌<◌, ◌≤◌, max, pos, ◌+ℤ◌, Bool, true, false, List, [], ◌∷◌, Some, None, refl, sym, ap, subst, arith, inl, inr}
 use Rattle.std.specs.Prelude.{◌⊎◌, nat_lt, slice_set}
 use Rattle.std.proofs.lemmas.Bool.Decides.{nat_tests}
 use Rattle.std.proofs.lemmas.List.{get_or-set_same, get_or-set_other}
 use Rattle.std.proofs.lemmas.Int.{ints}
 use Rattle.pc_language.specs.Ends.{end_of}
 use Rattle.pc_rows.specs.Laws.{at}
-use Rattle.pc_rows.specs.Linear.{Linear, State, value, zero_from}
+use Rattle.pc_rows.specs.Linear.{State, value, zero_from}
 use Rattle.pc_rows.proofs.Only.{zero_from_at}
 use Rattle.pc_flow.specs.declared.what.What.{What}
 use Rattle.pc_flow.specs.declared.what.What.TheVariants.{Enter, Test, Set, Check}

@@ -1,11 +1,11 @@
 -- Lists of intervals, variable by variable.
-use Rattle.std.proofs.Common.{◌≡◌, ◌≢◌, ◌∙◌, ℕ, zero, suc, ◌+◌, ◌<◌, ◌≤◌, max, min, ℤ, Bool, true, false, cond, List, [], ◌∷◌, ◌++◌, length, length-append, Some, None, slice_get, refl, sym, ap, subst, arith, inl, inr}
+use Rattle.std.proofs.Common.{◌≡◌, ◌≢◌, ◌∙◌, ℕ, zero, suc, ◌+◌, ◌<◌, ◌≤◌, max, min, ℤ, Bool, true, false, List, [], ◌∷◌, ◌++◌, length, length-append, Some, slice_get, refl, sym, ap, subst, arith, inl, inr}
 use Rattle.std.specs.Prelude.{◌⊎◌, ◌==◌, ◌&&◌}
 use Rattle.std.proofs.lemmas.Bool.Decides.{eqb_tells}
 use Rattle.std.proofs.lemmas.Option.{slice_get_past}
 use Rattle.pc_domain.proofs.Places.{got_before, got_last}
 use Rattle.pc_box.specs.declared.interval.Interval.{Interval}
-use Rattle.pc_box.specs.Intervals.{free, Holds, hull, steady, count_ends}
+use Rattle.pc_box.specs.Intervals.{free, Holds, count_ends}
 use Rattle.pc_box.specs.Boxes.{found, interval_at, tabulated, all_below, exchanged, put, hull_at, hulls, steady_at, steadies, counted}
 use Rattle.pc_box.proofs.Ends.{in_hull, in_steady, few_ends}
 

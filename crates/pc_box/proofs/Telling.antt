@@ -1,9 +1,9 @@
 -- The rows of a box are met by its states.
-use Rattle.std.proofs.Common.{◌≡◌, ℕ, zero, suc, ◌+◌, ◌<◌, ◌≤◌, ℤ, pos, negsuc, ◌+ℤ◌, ◌*ℤ◌, neg_ℤ, ◌≤ℤ◌, List, [], ◌∷◌, ◌++◌, length, replicate, Option, Some, None, arith}
+use Rattle.std.proofs.Common.{◌≡◌, ℕ, zero, suc, ◌<◌, ◌≤◌, ℤ, pos, negsuc, ◌+ℤ◌, ◌*ℤ◌, neg_ℤ, List, length, Option, Some, None, arith}
 use Rattle.std.proofs.lemmas.Int.{ints}
 use Rattle.std.proofs.lemmas.List.{get_or-replicate, length-replicate}
 use Rattle.pc_rows.specs.Laws.{at}
-use Rattle.pc_rows.specs.Linear.{Linear, State, value, MeetsAll, of_constant, with_coefficient, coefficient}
+use Rattle.pc_rows.specs.Linear.{State, value, MeetsAll, of_constant, with_coefficient, coefficient}
 use Rattle.pc_rows.specs.Substitution.{IsNotBelow, IsNotAbove}
 use Rattle.pc_rows.specs.declared.row.TheConstants.{VARIABLES}
 use Rattle.pc_rows.proofs.Meeting.{meets_join}

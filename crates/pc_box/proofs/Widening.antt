@@ -1,11 +1,10 @@
 -- Widening keeps states, and from some round on takes bounds away.
-use Rattle.std.proofs.Common.{◌≡◌, ◌∙◌, ℕ, ◌+◌, ◌<◌, ◌≤◌, min, Bool, true, false, cond, length, Option, Some, None, refl, sym, ap, subst, arith, inl, inr}
+use Rattle.std.proofs.Common.{◌≡◌, ℕ, ◌<◌, ◌≤◌, Bool, true, false, cond, length, Option, Some, None, refl, sym, ap, subst, arith, inl, inr}
 use Rattle.std.specs.Prelude.{◌⊎◌, nat_lt, MatchOption}
 use Rattle.std.proofs.lemmas.Bool.Decides.{nat_tests}
 use Rattle.pc_rows.specs.Laws.{at}
 use Rattle.pc_rows.specs.Linear.{State}
 use Rattle.pc_rows.specs.declared.row.TheConstants.{VARIABLES}
-use Rattle.pc_domain.specs.declared.limits.TheConstants.{PARTS}
 use Rattle.pc_box.specs.declared.limits.TheConstants.{WIDENING_ROUND}
 use Rattle.pc_box.specs.declared.interval.Interval.{Interval}
 use Rattle.pc_box.specs.Intervals.{Holds}

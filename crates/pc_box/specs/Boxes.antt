@@ -5,7 +5,7 @@ use Rattle.pc_rows.specs.Linear.{Linear, State, of_constant, with_coefficient}
 use Rattle.pc_rows.specs.Substitution.{never_row}
 use Rattle.pc_rows.specs.declared.row.TheConstants.{VARIABLES}
 use Rattle.pc_box.specs.declared.interval.Interval.{Interval}
-use Rattle.pc_box.specs.Intervals.{free, only_zero, Holds, hull, steady, is_within, is_hollow, count_ends}
+use Rattle.pc_box.specs.Intervals.{free, only_zero, Holds, hull, steady, is_within, count_ends}
 
 -- the number of variables that the box was made for, and the intervals of the variables in order; the others are free
 pub record Bounded : Type 0 where

@@ -7,7 +7,7 @@ use Rattle.pc_flow.specs.Flow.{Flow}
 use Rattle.pc_flow.specs.Lists.{In}
 use Rattle.pc_flow.specs.Shape.{IsGraph, IsHead}
 use Rattle.pc_domain.specs.Fold.{NoHeads}
-use Rattle.pc_domain.proofs.Heads.{leads_of, rises_unless, has_entry}
+use Rattle.pc_domain.proofs.Heads.{rises_unless, has_entry}
 use Rattle.pc_fixpoint.specs.Flowing.{heads}
 
 abbrev IsMarked : List PointInfo → ℕ → Bool → Type 0

@@ -1,6 +1,6 @@
 -- Values that no edge leaves have all states that are reached.
-use Rattle.std.proofs.Common.{◌≡◌, ◌∙◌, ℕ, ◌-◌, ◌<◌, ◌≤◌, pos, List, length, replicate, refl, Some, None, Option, slice_get, arith, inl, inr, Bool, true, false, length-append, eq-eqb}
-use Rattle.std.specs.Prelude.{◌⊎◌, ◌==◌}
+use Rattle.std.proofs.Common.{◌≡◌, ◌∙◌, ℕ, ◌-◌, ◌<◌, ◌≤◌, pos, List, length, replicate, refl, Some, None, Option, slice_get, arith, Bool, true, false, length-append, eq-eqb}
+use Rattle.std.specs.Prelude.{◌==◌}
 use Rattle.std.proofs.lemmas.List.{length-map, length-replicate}
 use Rattle.std.proofs.lemmas.Option.{slice_get-get_or}
 use Rattle.pc_rows.specs.Linear.{State}
@@ -9,7 +9,7 @@ use Rattle.pc_flow.specs.Carry.{HasVariable}
 use Rattle.pc_flow.specs.Flow.{Flow}
 use Rattle.pc_flow.specs.Incidence.{entering}
 use Rattle.pc_flow.specs.Lists.{In}
-use Rattle.pc_flow.specs.Shape.{IsGraph, IsHead}
+use Rattle.pc_flow.specs.Shape.{IsGraph}
 use Rattle.pc_flow.specs.Walk.{Pass, Reach, entered}
 use Rattle.pc_flow.proofs.Assigning.{has_variable}
 use Rattle.pc_flow.proofs.Carrying.{same_length}

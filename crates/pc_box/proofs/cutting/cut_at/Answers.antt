@@ -1,4 +1,4 @@
-use Rattle.std.proofs.Common.{◌≡◌, ◌∙◌, Some, true, false, slice_get, ap, sym, subst, rules}
+use Rattle.std.proofs.Common.{◌≡◌, ◌∙◌, Some, false, slice_get, ap, sym, subst, rules}
 use Rattle.pc_rows.specs.Readers.{terms_of}
 use Rattle.pc_box.specs.declared.interval.Interval.{Interval}
 use Rattle.pc_box.specs.Intervals.{is_hollow, cut}
