@@ -6,7 +6,7 @@ use Rattle.std.proofs.lemmas.Int.{ints}
 use Rattle.std.proofs.Math.IntN.{*ℤ-zero}
 use Rattle.pc_rows.specs.Linear.{dot}
 use Rattle.pc_rows.specs.Evidence.{Point}
-use Rattle.pc_rows.proofs.Algebra.{get_or-scale_list, length-scale_list}
+use Rattle.pc_rows.proofs.Algebra.{get_or-scale_list, get_or-zeros, length-scale_list}
 use Rattle.pc_rows.proofs.Adding.{at_least_one}
 use Rattle.pc_elim.specs.Elimination.{Made, Bound, level}
 use Rattle.pc_elim.specs.Placing.{greatest, placed_at, placed_by, placed}
@@ -40,11 +40,6 @@ pub record IsFrom (w k : ℕ) (p : Point) : Type 0 where
   pub long : length p.numerators ≡ w
   pub free : (j : ℕ) → j < k → get_or p.numerators j (pos 0) ≡ pos 0
   pub positive : pos 1 ≤ℤ p.denominator
-
-get_or-zeros : (w j : ℕ) → get_or (replicate w (pos 0)) j (pos 0) ≡ pos 0
-get_or-zeros zero j = refl
-get_or-zeros (suc w) zero = refl
-get_or-zeros (suc w) (suc j) = get_or-zeros w j
 
 pub origin_from : (w k : ℕ) → IsFrom w k (origin w)
 origin_from w k = record { long = grind (arith, common_steps); free = λ j _. get_or-zeros w j; positive = omega (arith, ints) }

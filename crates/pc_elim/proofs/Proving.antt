@@ -1,17 +1,17 @@
 -- Multipliers by place as a proof with named premises: the same total.
-use Rattle.std.proofs.Common.{◌≡◌, ℕ, zero, suc, ◌+◌, ◌≤◌, ◌<◌, ℤ, pos, negsuc, refl, sym, subst, ◌∙◌, ap, arith, ◌≤ℤ◌, List, [], ◌∷◌, ◌++◌, Bool, true, false, cond, length, get_or, take, drop}
+use Rattle.std.proofs.Common.{◌≡◌, ℕ, zero, suc, ◌+◌, ◌<◌, ℤ, pos, negsuc, refl, sym, subst, ◌∙◌, ap, arith, ◌≤ℤ◌, List, [], ◌∷◌, ◌++◌, Bool, true, false, cond, length, get_or, take, drop}
 use Rattle.std.specs.List.{AllByRecursion, list_all}
 use Rattle.std.proofs.lemmas.Int.{ints}
-use Rattle.std.proofs.lemmas.List.{drop_more, take_more, length-take-le}
-use Rattle.pc_rows.specs.declared.proof.Part.{Part}
+use Rattle.std.proofs.lemmas.List.{drop_more}
 use Rattle.pc_rows.specs.Linear.{Linear, sum_of, scaled_by, negation, is_zero}
-use Rattle.pc_rows.specs.Evidence.{IsAbove}
+use Rattle.pc_rows.specs.Parts.{parts_from}
 use Rattle.pc_rows.specs.Shows.{nothing_row, with_parts, total, Shows}
 use Rattle.pc_rows.proofs.Lists.{zero_is}
 use Rattle.pc_rows.proofs.Joining.{number_is_meant}
+use Rattle.pc_rows.proofs.PartLists.{part, parts_have, parts_within}
 use Rattle.pc_rows.proofs.Algebra.{row_assoc, row_comm, nothing_left, nothing_right, length-add_lists, length-scale_list, length-negate_list}
 use Rattle.pc_elim.specs.Elimination.{combination}
-use Rattle.pc_elim.specs.Settling.{parts_from, proof_of}
+use Rattle.pc_elim.specs.Settling.{proof_of}
 use Rattle.pc_elim.proofs.Soundness.{Contradicts, combination-none}
 use Rattle.pc_elim.proofs.Starting.{Long, nothing_zero, plus_nothing, drop_next}
 
@@ -53,9 +53,6 @@ at_front [] (suc i) r more e = cc
 at_front (q ∷ premises) zero r more e = cc
 at_front (q ∷ premises) (suc i) r more e = at_front premises i r more e
 
-abbrev part : ℕ → ℤ → Part
-part i m = record { index = i; multiplier = m }
-
 -- a multiplier of 0 makes no part, and adds nothing
 skipped : (m : ℤ) (r sum rest : Linear) → Long r → Long sum → is_zero m ≡ true → sum_of sum rest ≡ sum_of sum (sum_of (scaled_by m r) rest)
 skipped m r sum rest long long' e =
@@ -88,77 +85,6 @@ total_is premises goal ms h g lt =
     parts_total premises premises 0 ms (scaled_by m (negation goal)) (long_scaled m (negation goal) (long_negation goal g)) h refl
     ∙ row_comm (scaled_by m (negation goal)) (combination ms premises)
     ∙ sym (combination-last ms premises (negation goal) lt)
-
--- facts of each part
-
-parts_each : (P : ℤ → Type 0) (i : ℕ) (ms : List ℤ) → AllByRecursion P ms → AllByRecursion (λ q. P q.multiplier) (parts_from i ms)
-parts_each P i [] h = tt
-parts_each P i (m ∷ ms) h = by_zero (is_zero m) (parts_each P (i + 1) ms h.1)
-  where
-    by_zero : (t : Bool) → AllByRecursion (λ q. P q.multiplier) (parts_from (i + 1) ms) → AllByRecursion (λ q. P q.multiplier) (cond t (parts_from (i + 1) ms) (part i m ∷ parts_from (i + 1) ms))
-    by_zero true g = g
-    by_zero false g = (h.0, g)
-
-each_take : (P : ℤ → Type 0) (n : ℕ) (ms : List ℤ) → AllByRecursion P ms → AllByRecursion P (take n ms)
-each_take P zero ms h = tt
-each_take P (suc n) [] h = tt
-each_take P (suc n) (m ∷ ms) h = (h.0, each_take P n ms h.1)
-
-pub parts_have : (P : ℤ → Type 0) (n : ℕ) (ms : List ℤ) → AllByRecursion P ms → AllByRecursion (λ q. P q.multiplier) (parts_from 0 (take n ms))
-parts_have P n ms h = parts_each P 0 (take n ms) (each_take P n ms h)
-
-above_more : (i j : ℕ) (ps : List Part) → i ≤ j → IsAbove i ps → IsAbove j ps
-above_more i j [] le h = tt
-above_more i j (p ∷ ps) le h = (omega (arith, h.0), above_more i j ps le h.1)
-
-pub parts_above : (i : ℕ) (ms : List ℤ) → IsAbove (i + length ms) (parts_from i ms)
-parts_above i [] = tt
-parts_above i (m ∷ ms) = by_zero (is_zero m) (above_more (i + 1 + length ms) (i + suc (length ms)) (parts_from (i + 1) ms) (omega arith) (parts_above (i + 1) ms))
-  where
-    by_zero : (t : Bool) → IsAbove (i + suc (length ms)) (parts_from (i + 1) ms) → IsAbove (i + suc (length ms)) (cond t (parts_from (i + 1) ms) (part i m ∷ parts_from (i + 1) ms))
-    by_zero true g = g
-    by_zero false g = (omega arith, g)
-
-length-take : (n : ℕ) (ms : List ℤ) → length (take n ms) ≤ n
-length-take zero ms = omega arith
-length-take (suc n) [] = omega arith
-length-take (suc n) (m ∷ ms) = let e = length-take n ms in omega arith
-
-pub parts_within : (n : ℕ) (ms : List ℤ) → IsAbove n (parts_from 0 (take n ms))
-parts_within n ms = above_more (0 + length (take n ms)) n (parts_from 0 (take n ms)) (let e = length-take n ms in omega arith) (parts_above 0 (take n ms))
-
-length-parts : (i : ℕ) (ms : List ℤ) → length (parts_from i ms) ≤ length ms
-length-parts i [] = omega arith
-length-parts i (m ∷ ms) = by_zero (is_zero m) (length-parts (i + 1) ms)
-  where
-    by_zero : (t : Bool) → length (parts_from (i + 1) ms) ≤ length ms → length (cond t (parts_from (i + 1) ms) (part i m ∷ parts_from (i + 1) ms)) ≤ suc (length ms)
-    by_zero true g = omega arith
-    by_zero false g = omega arith
-
-pub length-proof : (n : ℕ) (ms : List ℤ) → length (parts_from 0 (take n ms)) ≤ n
-length-proof n ms = let e = length-parts 0 (take n ms) in let f = length-take n ms in omega arith
-
--- one multiplier more
-pub parts_more : (i : ℕ) (ms : List ℤ) (m : ℤ) → parts_from i (ms ++ m ∷ []) ≡ parts_from i ms ++ parts_from (i + length ms) (m ∷ [])
-parts_more i [] m = let e : i ≡ i + 0 = omega arith in ap (λ (j : ℕ). parts_from j (m ∷ [])) e
-parts_more i (n ∷ ms) m =
-    let e : i + 1 + length ms ≡ i + suc (length ms) = omega arith in
-    let f = parts_more (i + 1) ms m ∙ ap (λ (j : ℕ). parts_from (i + 1) ms ++ parts_from j (m ∷ [])) e in
-    by_zero (is_zero n) f
-  where
-    by_zero : (t : Bool) → parts_from (i + 1) (ms ++ m ∷ []) ≡ parts_from (i + 1) ms ++ parts_from (i + suc (length ms)) (m ∷ []) →
-        cond t (parts_from (i + 1) (ms ++ m ∷ [])) (part i n ∷ parts_from (i + 1) (ms ++ m ∷ []))
-        ≡ cond t (parts_from (i + 1) ms) (part i n ∷ parts_from (i + 1) ms) ++ parts_from (i + suc (length ms)) (m ∷ [])
-    by_zero true f = f
-    by_zero false f = ap (λ (z : List Part). part i n ∷ z) f
-
-pub parts_next : (ms : List ℤ) (i : ℕ) (d : ℤ) → i < length ms → parts_from 0 (take i ms) ++ parts_from i (get_or ms i d ∷ []) ≡ parts_from 0 (take (i + 1) ms)
-parts_next ms i d lt =
-    let l = length-take-le i ms (omega arith) in
-    let e : 0 + length (take i ms) ≡ i = omega arith in
-    ap (λ (j : ℕ). parts_from 0 (take i ms) ++ parts_from j (get_or ms i d ∷ [])) (sym e)
-    ∙ sym (parts_more 0 (take i ms) (get_or ms i d))
-    ∙ ap (parts_from 0) (sym (take_more ms i d lt))
 
 get_each : (P : ℤ → Type 0) (ms : List ℤ) (i : ℕ) → P (pos 0) → AllByRecursion P ms → P (get_or ms i (pos 0))
 get_each P [] i z h = z

@@ -1,5 +1,5 @@
 -- Modest rows are settled with all numbers in range and with room for all rows.
-use Rattle.std.proofs.Common.{◌≡◌, ℕ, zero, suc, ◌+◌, ◌*◌, ◌^◌, ◌≤◌, ◌<◌, ℤ, pos, refl, sym, subst, arith, List, [], ◌∷◌, Bool, true, false, Some, length, replicate}
+use Rattle.std.proofs.Common.{◌≡◌, ℕ, zero, suc, ◌+◌, ◌*◌, ◌^◌, ◌≤◌, ◌<◌, ℤ, refl, sym, subst, arith, List, [], ◌∷◌, Bool, true, false, Some, length}
 use Rattle.std.specs.List.{AllByRecursion}
 use Rattle.std.proofs.lemmas.Int.{ints}
 use Rattle.pc_rows.specs.Bounds.{AreWithin}
@@ -14,6 +14,7 @@ use Rattle.pc_elim.proofs.Completeness.{IsFrom, origin_from, placed_from}
 use Rattle.pc_elim.proofs.Soundness.{first_has}
 use Rattle.pc_elim.proofs.Counting.{eliminated_room, one_if}
 use Rattle.pc_elim.proofs.SmallRows.{MadeWithin, made_more, all_pairs_fit, eliminated_within}
+use Rattle.pc_rows.proofs.Bounding.{zeros_within}
 use Rattle.pc_elim.proofs.SmallPoints.{PointWithin, placed_fits}
 use Rattle.pc_elim.proofs.Absent.{all_free, free_made, free_placed, free_level, free_fits}
 
@@ -68,10 +69,6 @@ room_limit (suc (suc (suc l))) = omega arith
 abbrev pub remaining : ℕ → ℕ → List Made → ℕ
 remaining zero k rs = 0
 remaining (suc n) k rs = one_if (has_variable k rs) + remaining n (suc k) rs
-
-zeros_within : (s w : ℕ) → AreWithin s (replicate w (pos 0))
-zeros_within s zero = tt
-zeros_within s (suc w) = (omega (arith, ints), zeros_within s w)
 
 -- the rows without the first k variables, where so many of the later ones occur
 record Stage (k l : ℕ) (start : List Made) : Type 0 where

@@ -9,7 +9,7 @@ use Rattle.pc_rows.specs.Shows.{nothing_row, times_premise, PartsFit, TotalFits}
 use Rattle.pc_rows.proofs.Bounding.{at_within}
 use Rattle.pc_elim.specs.Settling.{proof_of}
 use Rattle.pc_elim.proofs.SmallRows.{scaled_within, row_sum_within, row_in_range}
-use Rattle.pc_elim.proofs.Proving.{parts_have, length-proof}
+use Rattle.pc_rows.proofs.PartLists.{parts_have, length-parts-take}
 
 premise_within : (n : ℕ) (premises : List Linear) (i : ℕ) → AllWithin n premises → Within n (get_or premises i nothing_row)
 premise_within n [] i h = record { constant = omega (arith, ints); coefficients = tt }
@@ -36,7 +36,7 @@ pub total_fits : (premises : List Linear) (goal : Linear) (ms : List ℤ) → le
 total_fits premises goal ms few h g k =
     let m = get_or ms (length premises) (pos 0) in
     let product = scaled_within (2 ^ 87) (2 ^ 10) m (negation goal) (at_within (2 ^ 87) ms (length premises) h) k in
-    let long = length-proof (length premises) ms in
+    let long = length-parts-take (length premises) ms in
     record {
       negated_goal = row_in_range (2 ^ 10) (negation goal) (omega arith) k;
       product = row_in_range (2 ^ 87 * 2 ^ 10) (scaled_by m (negation goal)) (omega arith) product;

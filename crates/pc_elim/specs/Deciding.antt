@@ -5,6 +5,7 @@ use Rattle.pc_rows.specs.declared.rows.NoMemory.{NoMemory}
 use Rattle.pc_rows.specs.Linear.{IsInRange, negation}
 use Rattle.pc_rows.specs.Evidence.{System, Proof}
 use Rattle.pc_rows.specs.Shows.{Shows, TotalFits}
+pub use Rattle.pc_rows.specs.Shows.{IsEvidence}
 use Rattle.pc_rows.specs.Points.{Refutes}
 use Rattle.pc_rows.specs.Modest.{refuting, IsModest}
 use Rattle.pc_elim.specs.declared.decision.Answer.{Answer}
@@ -13,11 +14,6 @@ use Rattle.pc_elim.specs.declared.made.TheConstants.{PARTS}
 use Rattle.pc_elim.specs.Elimination.{Made, level, started}
 use Rattle.pc_elim.specs.Settling.{origin, contradiction_of, taken_back, proof_of}
 use Rattle.pc_elim.specs.Fits.{LevelFits, BackFits}
-
--- the proof shows the goal from the premises, and its total is computed in range
-pub record IsEvidence (s : System) (p : Proof) : Type 0 where
-  pub shows : Shows s.premises s.goal p
-  pub fits : TotalFits s.premises s.goal p
 
 -- a proof that shows the goal; or a point that refutes it, so that no proof does; or neither, which no modest system gets
 abbrev pub DecideIs : System → Result Answer NoMemory → Type 0

@@ -1,8 +1,7 @@
 -- Rows are settled by multipliers that make a contradiction of them, or by a point that meets them all.
-use Rattle.std.specs.Prelude.{ℕ, zero, suc, ◌+◌, ℤ, pos, int_lt, Bool, List, [], ◌∷◌, Option, Some, None, take, replicate, slice_index_or, if◌then◌else◌}
-use Rattle.pc_rows.specs.declared.proof.Part.{Part}
-use Rattle.pc_rows.specs.Linear.{is_zero}
+use Rattle.std.specs.Prelude.{ℕ, zero, suc, ℤ, pos, int_lt, Bool, List, [], ◌∷◌, Option, Some, None, take, replicate, slice_index_or, if◌then◌else◌}
 use Rattle.pc_rows.specs.Evidence.{Point, Proof}
+use Rattle.pc_rows.specs.Parts.{parts_from}
 use Rattle.pc_elim.specs.declared.settle.Found.{Found}
 use Rattle.pc_elim.specs.declared.settle.Found.TheVariants.{Shown, At}
 use Rattle.pc_elim.specs.Elimination.{Made, level}
@@ -34,11 +33,6 @@ settled_by width start None = At (taken_back width start (origin width))
 -- a contradiction of the rows without variables is looked for
 abbrev pub settle : ℕ → List Made → Found
 settle width start = settled_by width start (contradiction_of (level width start))
-
--- the multipliers other than 0, with their indices from i on
-abbrev pub parts_from : ℕ → List ℤ → List Part
-parts_from i [] = []
-parts_from i (m ∷ ms) = if is_zero m then parts_from (i + 1) ms else ((record { index = i; multiplier = m }) ∷ parts_from (i + 1) ms)
 
 -- the multipliers of so many premises, and then that of the negated goal, as a proof
 abbrev pub proof_of : ℕ → List ℤ → Proof

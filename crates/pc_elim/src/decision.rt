@@ -2,16 +2,16 @@
 
 ghost use Rattle.std.specs.Prelude.{◌≡◌, ◌<◌, ◌≤◌, ◌+◌, [], ◌∷◌, ◌++◌, IfOk};
 ghost use Rattle.pc_rows.specs.Linear.{IsInRange, negation};
-ghost use Rattle.pc_rows.specs.Evidence.{IsAbove, IsSystem};
+ghost use Rattle.pc_rows.specs.Evidence.{IsSystem};
 ghost use Rattle.pc_rows.specs.Modest.{refuting};
 ghost use Rattle.pc_elim.specs.declared.made.TheConstants.{PARTS};
 ghost use Rattle.pc_elim.specs.Elimination.{started, unit};
-ghost use Rattle.pc_elim.specs.Settling.{proof_of, parts_from};
+ghost use Rattle.pc_elim.specs.Settling.{proof_of};
 ghost use Rattle.pc_elim.specs.Deciding.{DecideIs, AnswerIs, ShownIs};
 
 use crate::made::{Fault, Made, PARTS};
 use crate::settle::{Found, settle};
-use pc_rows::{NoMemory, Number, PREMISES, Part, Parts, Past, Point, Proof, Row, System, total};
+use pc_rows::{NoMemory, Number, Parts, Past, Point, Proof, Row, System, total};
 use sqlite_items::Items;
 use std::alloc::Global;
 
@@ -103,24 +103,6 @@ fn proof_of(
     requires { premises + 1 ≤ PARTS }
     ensures { IfOk result (λ p. p ≡ proof_of premises multipliers.now) }
 {
-    let mut parts = Parts::new(alloc);
-    for i in 0..premises {
-        add_part(&mut parts, i, multipliers[i])?;
-    }
+    let parts = Parts::of_multipliers(alloc, &multipliers[..premises])?;
     Ok(Proof::new(multipliers[premises], parts))
-}
-
-/// Puts a part at the end, unless its multiplier is 0.
-fn add_part(parts: &mut Parts, i: usize, multiplier: Number) -> Result<(), NoMemory>
-    requires premise { i < PREMISES }
-    requires rising { IsAbove i parts.old }
-    ensures { IfOk result (λ _. parts.new ≡ parts.old ++ parts_from i (multiplier ∷ [])) }
-{
-    if multiplier.is_zero() {
-        return Ok(());
-    }
-    parts.push(Part {
-        index: i as u32,
-        multiplier,
-    })
 }

@@ -21,10 +21,3 @@ owed_is_asked (Check own) rows = asserted own (own ++ rows)
 
 pub owed_long : (w : What) (rows : List Linear) → length (owes w rows) ≡ length (asked w rows)
 owed_long w rows = ap (length {A = Linear}) (owed_is_asked w rows) ∙ length-map (asked w rows) (back w)
-
--- an edge that is no assertion has to show the rows at its target
-pub asked_else : (w : What) (rows : List Linear) → ((own : List Linear) → w ≡ Check own → ⊥) → asked w rows ≡ rows
-asked_else (Enter params) rows h = refl
-asked_else (Test own) rows h = refl
-asked_else (Set x form lo hi) rows h = refl
-asked_else (Check own) rows h = absurd (h own refl)

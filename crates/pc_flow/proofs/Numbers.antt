@@ -101,17 +101,6 @@ numbers_passed test n (y ∷ ys) x h = by (test y) (numbers_passed test (n + 1) 
 
 -- ---- the loop over the edges
 
-pub none_at_first : (end : End) (points : ℕ) (edges : List Arc) (all : List (List ℕ)) → HasNone points all → AreNumbers end points (take 0 edges) all
-none_at_first end points edges all none = record {
-  long = ap (length {A = List ℕ}) none ∙ length-replicate points [];
-  each = λ p lt. rw none (none_at points p lt);
-}
-  where
-    none_at : (n p : ℕ) → p < n → slice_get {X = List ℕ} (replicate n []) p ≡ Some []
-    none_at zero p lt = absurd (omega arith)
-    none_at (suc n) zero lt = refl
-    none_at (suc n) (suc p) lt = none_at n p (omega arith)
-
 module _ (end : End) (points : ℕ) (edges : List Arc) (i : ℕ) (e : Arc) (all new : List (List ℕ)) (old : List ℕ) where
   abbrev q : ℕ
   q = point_at end e
@@ -162,6 +151,3 @@ module _ (end : End) (points : ℕ) (edges : List Arc) (i : ℕ) (e : Arc) (all 
   number_put p is_q lt at within was is so_far =
       number_added lt at (each_got (λ e. point_at end e < points) edges i e within (slice_get_read edges (length edges) i e refl lt at))
       (was ∙ ap (λ (n : ℕ). get_or all n old) is_q) (is ∙ ap (λ (n : ℕ). set all n (old ++ i ∷ [])) is_q) so_far
-
-pub all_listed : (end : End) (points : ℕ) (edges : List Arc) (i : ℕ) (all : List (List ℕ)) → length edges ≤ i → AreNumbers end points (take i edges) all → AreNumbers end points edges all
-all_listed end points edges i all le h = subst (λ (z : List Arc). AreNumbers end points z all) (take_all i edges le) h

@@ -7,7 +7,9 @@ use Rattle.pc_grammar.specs.declared.tree.ExprTree.{ExprTree}
 use Rattle.pc_grammar.specs.Combinators.{Text, Parser, Lang, Class, none, both, is_both}
 use Rattle.pc_grammar.specs.Terminals.{among, the, one, is_one, one_of, is_one_of}
 use Rattle.pc_grammar.specs.Expressions.{signs, number, name, signed, all_products, all_sums, inner, atom, factor, star_factor, addend, sign_addend, expr_in, paren_in, paren, is_atom, is_factor, is_star_factor, is_addend, is_sign_addend, is_expr_in, is_paren_in, is_paren}
-use Rattle.pc_grammar.proofs.Combinators.{Laws, Begins, token_laws, map_laws, both_laws, either_laws, maybe_laws, many_laws, shut_laws, alike_laws}
+use Rattle.pc_grammar.proofs.Combinators.{token_laws, map_laws, both_laws, either_laws, maybe_laws, shut_laws, alike_laws}
+use Rattle.pc_grammar.proofs.Outcomes.{Laws, Begins}
+use Rattle.pc_grammar.proofs.Repetition.{many_laws}
 use Rattle.pc_grammar.proofs.Sets.{parted, parts, fewer, none_ends, one_begins, map_begins, both_begins, either_begins, maybe_begins, many_parts}
 
 -- some symbol that stands for the terminal

@@ -1,4 +1,6 @@
+pub mod Outcomes
 pub mod Combinators
+pub mod Repetition
 pub mod Series
 pub mod Sets
 pub mod Expressions

@@ -1,7 +1,7 @@
 -- One turn of `many` and of `series`, as a loop of the descent makes it.
 use Rattle.std.proofs.Common.{◌≡◌, ℕ, zero, suc, ◌≤◌, ◌<◌, Bool, true, false, cond, List, [], ◌∷◌, ◌++◌, length, Option, Some, None, refl, ap, subst, arith, length-append}
 use Rattle.pc_grammar.specs.Combinators.{Text, Parser, Lang, Class, Out, Got, Stops, Fault, starts, and_then, map_out, many_from, many, Part, More, Last, goes_on, series_from, series}
-use Rattle.pc_grammar.proofs.Combinators.{Laws, Begins, Outcome, Read}
+use Rattle.pc_grammar.proofs.Outcomes.{Laws, Begins, Outcome, Read}
 
 -- what is read of a word that begins with the class is shorter
 pub progress_of : {A : Type 0} (f c : Class) (L L' : Lang A) (p p' : Parser A) → Laws c L L' p p' → ((a : A) (w : Text) → L a w → Begins f w)

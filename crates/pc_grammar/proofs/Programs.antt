@@ -9,7 +9,9 @@ use Rattle.pc_grammar.specs.Terminals.{among, the, one, is_one}
 use Rattle.pc_grammar.specs.Statements.{begins_stmt, is_stmts, is_block}
 use Rattle.pc_grammar.specs.Expressions.{is_paren}
 use Rattle.pc_grammar.specs.Programs.{given, var_names, flat, program_of, names, params, var_line, locals, program, is_names, is_params, is_var_line, is_locals, is_program}
-use Rattle.pc_grammar.proofs.Combinators.{Laws, Begins, Ends, map_laws, both_laws, maybe_laws, many_laws}
+use Rattle.pc_grammar.proofs.Combinators.{map_laws, both_laws, maybe_laws}
+use Rattle.pc_grammar.proofs.Outcomes.{Laws, Begins, Ends}
+use Rattle.pc_grammar.proofs.Repetition.{many_laws}
 use Rattle.pc_grammar.proofs.Sets.{parted, parts, fewer, none_ends, one_begins, map_begins, both_begins, many_parts}
 use Rattle.pc_grammar.proofs.Expressions.{only, then_laws, closed_laws, one_laws}
 use Rattle.pc_grammar.proofs.Statements.{item_laws, separated_laws, enclosed_laws, after_stmts, stmts_at_laws, stmt_begins}

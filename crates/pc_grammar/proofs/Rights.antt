@@ -11,7 +11,8 @@ use Rattle.pc_grammar.specs.Combinators.{Text, Parser, Lang, none, both, map_par
 use Rattle.pc_grammar.specs.Terminals.{among, the}
 use Rattle.pc_grammar.specs.Expressions.{signs, addend}
 use Rattle.pc_grammar.specs.Rights.{bound_of, open_bound, choice_of, alone, closed_bound, bound, choice, is_closed_bound, is_bound, is_choice, is_right, more, more_or_last, joined, last_or_more, part, right}
-use Rattle.pc_grammar.proofs.Combinators.{Laws, Begins, map_laws, both_laws, either_laws, maybe_laws, alike_laws}
+use Rattle.pc_grammar.proofs.Combinators.{map_laws, both_laws, either_laws, maybe_laws, alike_laws}
+use Rattle.pc_grammar.proofs.Outcomes.{Laws, Begins}
 use Rattle.pc_grammar.proofs.Series.{series_laws, series_opens}
 use Rattle.pc_grammar.proofs.Sets.{parted, parts, fewer, none_ends, one_begins, map_begins, both_begins, either_begins, maybe_begins}
 use Rattle.pc_grammar.proofs.Expressions.{only, after_addend, after_expr, begins_expr, Opens, then_laws, closed_laws, one_laws, addend_begins, expr_begins, addend_laws}

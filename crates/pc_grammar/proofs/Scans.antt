@@ -1,5 +1,5 @@
 -- What the counts say of a text and its fronts.
-use Rattle.std.proofs.Common.{◌≡◌, ◌≤◌, [], ◌∷◌, ◌++◌, length, Option, Some, None, Result, Ok, Err, refl, sym, ap, ◌∙◌, subst, append_assoc, ◌⊎◌, inl, inr, arith, length-append}
+use Rattle.std.proofs.Common.{◌≡◌, ◌≤◌, [], ◌∷◌, ◌++◌, length, Option, Some, None, Result, Ok, Err, refl, sym, ap, ◌∙◌, subst, append_assoc, ◌⊎◌, inl, inr, arith, length-append, append-nil}
 use Rattle.pc_grammar.specs.declared.symbol.Symbol.{Symbol}
 use Rattle.pc_grammar.specs.declared.fault.ParseFault.{ParseFault}
 use Rattle.pc_grammar.specs.declared.fault.ParseFault.TheVariants.{TooDeep, TooLong}
@@ -8,7 +8,6 @@ use Rattle.pc_grammar.specs.declared.limits.Past.{Past}
 use Rattle.pc_grammar.specs.Combinators.{Text}
 use Rattle.pc_grammar.specs.Limits.{or_else, braces_after, signs_after, ands_after, is_sign, counted, and_on, counts, start, Within, FirstPast, one_later, past_or, first_past}
 use Rattle.std.proofs.lemmas.Bool.{cases_lt}
-use Rattle.pc_grammar.proofs.Combinators.{append-nil}
 
 -- ---- the counts go on from one text to the next
 

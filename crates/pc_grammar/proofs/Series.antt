@@ -1,7 +1,7 @@
 -- Laws of a series.
-use Rattle.std.proofs.Common.{◌≡◌, ℕ, zero, suc, Bool, true, false, cond, List, [], ◌∷◌, ◌++◌, length, Option, Some, None, ◌⊎◌, inl, inr, refl, sym, ap, ◌∙◌, subst, append_assoc, arith, ◌≤◌, ◌<◌, length-append}
+use Rattle.std.proofs.Common.{◌≡◌, ℕ, zero, suc, Bool, true, false, cond, List, [], ◌∷◌, ◌++◌, length, Option, Some, None, ◌⊎◌, inl, inr, refl, sym, ap, ◌∙◌, subst, append_assoc, arith, ◌≤◌, ◌<◌, length-append, append-nil}
 use Rattle.pc_grammar.specs.Combinators.{Text, Fault, Syntax, Out, Got, Stops, Parser, Lang, Class, starts, and_then, map_out, Part, More, Last, goes_on, series_from, series, in_series, is_series}
-use Rattle.pc_grammar.proofs.Combinators.{Same, Ends, Begins, Read, Refused, Outcome, Laws, append-nil, begins_more, starts_same, starts_alike, same_behind, ahead}
+use Rattle.pc_grammar.proofs.Outcomes.{Same, Ends, Begins, Read, Refused, Outcome, Laws, begins_more, starts_same, starts_alike, same_behind, ahead}
 
 module _ {A Z : Type 0} (f : Class) (c e : Class) (L L' : Lang (Part A Z)) (p p' : Parser (Part A Z)) (laws : Laws c L L' p p')
     (here : (a : Part A Z) (w : Text) → L a w → Begins f w) (apart : (v : Text) → Begins f v → Ends c v)

@@ -5,7 +5,7 @@ use Rattle.pc_grammar.specs.declared.symbol.Symbol.{Symbol}
 use Rattle.pc_language.specs.declared.terminal.Terminal.{Terminal}
 use Rattle.pc_grammar.specs.Combinators.{Text, Lang, Class, none, is_map, is_both, is_either, is_maybe, is_many}
 use Rattle.pc_grammar.specs.Terminals.{code, has, among, is_one_of}
-use Rattle.pc_grammar.proofs.Combinators.{Ends, Begins, begins_more}
+use Rattle.pc_grammar.proofs.Outcomes.{Ends, Begins, begins_more}
 
 abbrev pub apart : List Terminal → List Terminal → Bool
 apart [] js = true

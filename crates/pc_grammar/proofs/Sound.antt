@@ -1,5 +1,5 @@
 -- The computed answer is what the symbols mean.
-use Rattle.std.proofs.Common.{◌≡◌, ◌+◌, ℕ, [], ◌∷◌, ◌++◌, length, take, Option, Some, None, Ok, Err, refl, sym, ap, ◌∙◌, subst, append_assoc, ◌⊎◌, inl, inr, arith, length-append}
+use Rattle.std.proofs.Common.{◌≡◌, ◌+◌, ℕ, [], ◌∷◌, ◌++◌, length, take, Option, Some, None, Ok, Err, refl, sym, ap, ◌∙◌, subst, append_assoc, ◌⊎◌, inl, inr, arith, length-append, append-nil}
 use Rattle.std.proofs.lemmas.List.{append_cancel_left, take_at}
 use Rattle.pc_text.specs.declared.place.Place.{Place}
 use Rattle.pc_grammar.specs.declared.symbol.Symbol.{Symbol}
@@ -11,7 +11,6 @@ use Rattle.pc_grammar.specs.Combinators.{Text, Out, Got, Stops, Syntax, Deep}
 use Rattle.pc_grammar.specs.Programs.{program, is_program, Derives}
 use Rattle.pc_grammar.specs.Limits.{start, counts, first_past, Within, FirstPast}
 use Rattle.pc_grammar.specs.Parsing.{BeginsProgram, Breaks, place_at, IsSyntax, IsPast, Means, front, read_whole, answer, parsed}
-use Rattle.pc_grammar.proofs.Combinators.{append-nil}
 use Rattle.pc_grammar.proofs.Programs.{program_laws}
 use Rattle.pc_grammar.proofs.Depths.{never_deep}
 use Rattle.pc_grammar.proofs.Whole.{IsRefusal, Says, says}

@@ -4,7 +4,7 @@ use Rattle.std.proofs.lemmas.List.{drop_more, take_more, map-append}
 use Rattle.pc_text.specs.declared.token.Token.{Token}
 use Rattle.pc_text.specs.Bytes.{Bytes}
 use Rattle.pc_text.specs.Lexemes.{AreSpans}
-use Rattle.pc_text.proofs.Spans.{wider}
+use Rattle.pc_text.proofs.Spans.{ends_within, wider}
 use Rattle.pc_grammar.specs.Symbols.{symbol_of, symbols_of}
 
 -- a token that stands first
@@ -14,10 +14,6 @@ pub record First (low high : ℕ) (t : Token) (ts : List Token) : Type 0 where
   pub within : t.to ≤ high
   pub holds : t.«from» < t.to
   pub rest : AreSpans t.«from» high ts
-
-ends_within : (low high : ℕ) (ts : List Token) → AreSpans low high ts → low ≤ high
-ends_within low high [] h = h
-ends_within low high (t ∷ ts) (a, b, c) = let e = ends_within t.to high ts c in omega arith
 
 first_of : (low high : ℕ) (t : Token) (ts : List Token) → AreSpans low high (t ∷ ts) → First low high t ts
 first_of low high t ts (a, b, c) = let e = ends_within t.to high ts c in record { begins = a; inside = omega arith; within = e; holds = b; rest = wider t.«from» t.to high ts (omega arith) c }

@@ -10,7 +10,9 @@ use Rattle.pc_grammar.specs.Combinators.{Text, Parser, Lang, none, both, is_both
 use Rattle.pc_grammar.specs.Terminals.{among, the, one, is_one, one_of, is_one_of}
 use Rattle.pc_grammar.specs.Expressions.{inner, is_expr_in}
 use Rattle.pc_grammar.specs.Statements.{operators, begins_stmt, all_items, separated, is_separated, optional, after, is_after, enclosed, is_enclosed, compare_of, any, holds, set_of, if_of, while_of, assert_of, assume_of, compare, all, test, set_stmt, assert_stmt, assume_stmt, if_stmt, while_stmt, stmt, stmts_in, block_in, block, is_compare, is_all, is_test, is_set_stmt, is_assert_stmt, is_assume_stmt, is_if_stmt, is_while_stmt, is_stmt, is_stmts_in, is_block_in, is_block, stmts, is_stmts}
-use Rattle.pc_grammar.proofs.Combinators.{Laws, Begins, token_laws, map_laws, both_laws, either_laws, maybe_laws, many_laws, shut_laws}
+use Rattle.pc_grammar.proofs.Combinators.{token_laws, map_laws, both_laws, either_laws, maybe_laws, shut_laws}
+use Rattle.pc_grammar.proofs.Outcomes.{Laws, Begins}
+use Rattle.pc_grammar.proofs.Repetition.{many_laws}
 use Rattle.pc_grammar.proofs.Sets.{apart, within, parted, parts, fewer, none_ends, one_begins, map_begins, both_begins, either_begins, many_parts}
 use Rattle.pc_grammar.proofs.Expressions.{any_of, only, after_expr, begins_expr, Opens, then_laws, closed_laws, one_laws, expr_begins, expr_laws, paren_laws, paren_begins}
 use Rattle.pc_grammar.proofs.Rights.{right_laws}

@@ -1,5 +1,5 @@
 -- Symbols have one answer at most.
-use Rattle.std.proofs.Common.{◌≡◌, ◌≤◌, [], ◌∷◌, ◌++◌, length, Result, Ok, Err, refl, sym, ap, ◌∙◌, subst, append_assoc, inl, inr, arith, length-append}
+use Rattle.std.proofs.Common.{◌≡◌, ◌≤◌, [], ◌∷◌, ◌++◌, length, Result, Ok, Err, refl, sym, ap, ◌∙◌, subst, append_assoc, inl, inr, arith, length-append, append-nil}
 use Rattle.std.proofs.lemmas.Bool.{cases_lt}
 use Rattle.pc_text.specs.declared.place.Place.{Place}
 use Rattle.pc_grammar.specs.declared.symbol.Symbol.{Symbol}
@@ -10,7 +10,6 @@ use Rattle.pc_grammar.specs.Combinators.{Text}
 use Rattle.pc_grammar.specs.Programs.{program, is_program, Derives}
 use Rattle.pc_grammar.specs.Limits.{start, counts, counted, Within}
 use Rattle.pc_grammar.specs.Parsing.{BeginsProgram, Breaks, place_at, IsSyntax, IsPast, Means, parsed, Gives, MeansUnless}
-use Rattle.pc_grammar.proofs.Combinators.{append-nil}
 use Rattle.pc_grammar.proofs.Programs.{program_laws}
 use Rattle.pc_grammar.proofs.Whole.{one_tree}
 use Rattle.pc_grammar.proofs.Scans.{cut, before_past}

@@ -1,9 +1,9 @@
 -- What a parser that keeps the laws at every depth says of whole texts.
-use Rattle.std.proofs.Common.{◌≡◌, ℕ, zero, suc, ◌+◌, [], ◌∷◌, ◌++◌, refl, sym, ◌∙◌, subst, inr, arith}
+use Rattle.std.proofs.Common.{◌≡◌, ℕ, zero, suc, ◌+◌, [], ◌∷◌, ◌++◌, refl, sym, ◌∙◌, subst, inr, arith, append-nil}
 use Rattle.std.proofs.lemmas.List.{append_cancel_right}
 use Rattle.pc_grammar.specs.declared.symbol.Symbol.{Symbol}
 use Rattle.pc_grammar.specs.Combinators.{Text, Parser, Lang, Out, Got, Stops, Syntax, Deep, none, whole}
-use Rattle.pc_grammar.proofs.Combinators.{Laws, Same, Read, Refused, Outcome, append-nil, same-refl}
+use Rattle.pc_grammar.proofs.Outcomes.{Laws, Same, Read, Refused, Outcome, same-refl}
 use Rattle.pc_grammar.proofs.Sets.{none_ends}
 
 -- what is before a syntax fault begins a text of the language, and goes on to none with the same next symbol, at any depth

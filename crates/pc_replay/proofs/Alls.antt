@@ -3,13 +3,12 @@ use Rattle.std.proofs.Common.{◌≡◌, ℕ, ◌+◌, ℤ, pos, List, [], ◌�
 use Rattle.std.specs.Prelude.{◌||◌}
 use Rattle.std.specs.Bool.{MatchBool}
 use Rattle.std.specs.List.{AllByRecursion, list_all, position_from}
-use Rattle.std.proofs.lemmas.Bool.{and_from}
+use Rattle.std.proofs.lemmas.Bool.{and_from, and_parts}
 use Rattle.pc_rows.specs.Linear.{is_zero}
-use Rattle.pc_rows.proofs.Ranges.{and_is}
 
 pub each_if : {A : Type 0} (p : A → Bool) (P : A → Type 0) → ((x : A) → p x ≡ true → P x) → (xs : List A) → list_all p xs ≡ true → AllByRecursion P xs
 each_if p P f [] h = tt
-each_if p P f (x ∷ xs) h = let g = and_is (p x) (list_all p xs) h in (f x g.0, each_if p P f xs g.1)
+each_if p P f (x ∷ xs) h = let g = and_parts (p x) (list_all p xs) h in (f x g.0, each_if p P f xs g.1)
 
 pub if_each : {A : Type 0} (p : A → Bool) (P : A → Type 0) → ((x : A) → P x → p x ≡ true) → (xs : List A) → AllByRecursion P xs → list_all p xs ≡ true
 if_each p P f [] h = refl

@@ -67,9 +67,6 @@ module _ (g : Flow) (n : ℕ) (a : Annotated) where
   abbrev all_edges : Ruling
   all_edges = in_order (edge_ruling n a) 0 edges
 
-  pub entry_refuses : (k : ℕ) → Some k ≡ first_beyond g.params (rows_at a.rows 0) → answer.Entry n k ≡ alternative_ruling g n a
-  entry_refuses k found = ap (λ o. first_refusal (refusal (answer.Entry n) o) all_edges) found
-
   module _ (entry : None ≡ first_beyond g.params (rows_at a.rows 0)) where
     after_entry : (r : Ruling) → r ≡ all_edges → r ≡ alternative_ruling g n a
     after_entry r h = h ∙ ap (λ o. first_refusal (refusal (answer.Entry n) o) all_edges) entry

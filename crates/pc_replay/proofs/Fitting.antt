@@ -3,13 +3,13 @@ use Rattle.std.proofs.Common.{◌≡◌, Option, Some, None, ℕ, ℤ, pos, ◌+
 use Rattle.std.specs.Prelude.{◌&&◌, ◌||◌, slice_set}
 use Rattle.std.specs.Bool.{MatchBool}
 use Rattle.std.specs.List.{list_all}
-use Rattle.std.proofs.lemmas.Bool.{and_from}
+use Rattle.std.proofs.lemmas.Bool.{and_from, and_parts}
 use Rattle.pc_rows.specs.declared.proof.Part.{Part}
 use Rattle.pc_rows.specs.Linear.{Linear, in_range, is_in_range, coefficient, is_zero, add_lists, scale_list, sum_of, scaled_by, negation}
 use Rattle.pc_rows.specs.Substitution.{least_product, needs_open_end, ProductFits, ConstantFits, CoefficientsFit, CarryFits, SubstituteFits}
 use Rattle.pc_rows.specs.Evidence.{Proof}
 use Rattle.pc_rows.specs.Shows.{times_premise, PartsFit, TotalFits}
-use Rattle.pc_rows.proofs.Ranges.{and_is, in_is, is_in, to_test, from_test, in_all, all_in}
+use Rattle.pc_rows.proofs.Ranges.{in_is, is_in, to_test, from_test, in_all, all_in}
 use Rattle.pc_language.specs.Ends.{end_of}
 use Rattle.pc_flow.specs.declared.what.What.{What}
 use Rattle.pc_flow.specs.declared.what.What.TheVariants.{Enter, Test, Set, Check}
@@ -31,10 +31,10 @@ constant_in c k f lo hi h =
     let sum = in_range (k +ℤ c *ℤ f) in
     let low = product_fits c lo in
     let high = product_fits c hi in
-    let whole = and_is (product && sum && low && high) (in_range (k +ℤ c *ℤ f +ℤ least_product c lo hi)) h in
-    let four = and_is (product && sum && low) high whole.0 in
-    let three = and_is (product && sum) low four.0 in
-    let two = and_is product sum three.0 in
+    let whole = and_parts (product && sum && low && high) (in_range (k +ℤ c *ℤ f +ℤ least_product c lo hi)) h in
+    let four = and_parts (product && sum && low) high whole.0 in
+    let three = and_parts (product && sum) low four.0 in
+    let two = and_parts product sum three.0 in
     record {
       product = is_in (c *ℤ f) two.0;
       sum = is_in (k +ℤ c *ℤ f) two.1;
@@ -52,7 +52,7 @@ in_constant c k f lo hi h =
 
 coefficients_in : (c : ℤ) (rs : List ℤ) (x : ℕ) (fs : List ℤ) → coefficients_fit c rs x fs ≡ true → CoefficientsFit c rs x fs
 coefficients_in c rs x fs h =
-    let g = and_is (list_all in_range (scale_list c fs)) (list_all in_range (add_lists (scale_list c fs) (slice_set rs x (pos 0)))) h in
+    let g = and_parts (list_all in_range (scale_list c fs)) (list_all in_range (add_lists (scale_list c fs) (slice_set rs x (pos 0)))) h in
     record { products = in_all (scale_list c fs) g.0; sums = in_all (add_lists (scale_list c fs) (slice_set rs x (pos 0))) g.1 }
 
 in_coefficients : (c : ℤ) (rs : List ℤ) (x : ℕ) (fs : List ℤ) → CoefficientsFit c rs x fs → coefficients_fit c rs x fs ≡ true
@@ -67,7 +67,7 @@ substitute_in r x form lo hi h =
     matched_if (is_zero c) (open_end || (constant && coefficients)) (MatchBool open_end (Unit {0}) (CarryFits r x form lo hi))
     (λ e. matched_if open_end (constant && coefficients) (CarryFits r x form lo hi)
     (λ g.
-    let k = and_is constant coefficients g in
+    let k = and_parts constant coefficients g in
     record {
       constant = constant_in c r.constant form.constant lo hi k.0;
       coefficients = coefficients_in c r.coefficients x form.coefficients k.1;
@@ -104,8 +104,8 @@ parts_in premises sum [] h = tt
 parts_in premises sum (p ∷ ps) h =
     let product = times_premise premises p in
     let next = sum_of sum product in
-    let g = and_is (is_in_range product && is_in_range next) (parts_fit premises next ps) h in
-    let k = and_is (is_in_range product) (is_in_range next) g.0 in
+    let g = and_parts (is_in_range product && is_in_range next) (parts_fit premises next ps) h in
+    let k = and_parts (is_in_range product) (is_in_range next) g.0 in
     (from_test product k.0, from_test next k.1, parts_in premises next ps g.1)
 
 in_parts : (premises : List Linear) (sum : Linear) (ps : List Part) → PartsFit premises sum ps → parts_fit premises sum ps ≡ true
@@ -118,8 +118,8 @@ in_parts premises sum (p ∷ ps) h =
 pub total_in : (premises : List Linear) (goal : Linear) (p : Proof) → total_fits premises goal p ≡ true → TotalFits premises goal p
 total_in premises goal p h =
     let start = scaled_by p.goal (negation goal) in
-    let g = and_is (is_in_range (negation goal) && is_in_range start) (parts_fit premises start p.parts) h in
-    let k = and_is (is_in_range (negation goal)) (is_in_range start) g.0 in
+    let g = and_parts (is_in_range (negation goal) && is_in_range start) (parts_fit premises start p.parts) h in
+    let k = and_parts (is_in_range (negation goal)) (is_in_range start) g.0 in
     record { negated_goal = from_test (negation goal) k.0; product = from_test start k.1; parts = parts_in premises start p.parts g.1 }
 
 pub in_total : (premises : List Linear) (goal : Linear) (p : Proof) → TotalFits premises goal p → total_fits premises goal p ≡ true

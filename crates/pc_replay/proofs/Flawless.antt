@@ -2,14 +2,14 @@
 use Rattle.std.proofs.Common.{◌≡◌, ℕ, ◌<◌, ℤ, pos, negsuc, ◌≤ℤ◌, List, Bool, true, false, length, refl, sym, ap, ◌∙◌, arith, Option, Some, None}
 use Rattle.std.specs.Prelude.{not, int_le, nat_lt}
 use Rattle.std.specs.List.{AllByRecursion, list_all, position_from}
-use Rattle.std.proofs.lemmas.Bool.{ltb-true, lt-ltb, and_from, false_from_ne_true, not-false, not_from_true}
+use Rattle.std.proofs.lemmas.Bool.{ltb-true, lt-ltb, and_from, false_from_ne_true, not-false, not_from_true, and_parts}
 use Rattle.std.proofs.lemmas.Int.{ints}
 use Rattle.pc_rows.specs.declared.proof.Part.{Part}
 use Rattle.pc_rows.specs.Linear.{Linear, is_zero, IsNumber}
 use Rattle.pc_rows.specs.Evidence.{Proof}
 use Rattle.pc_rows.specs.Shows.{total, TotalFits}
+use Rattle.pc_rows.proofs.Joining.{le_is, is_le}
 use Rattle.pc_rows.proofs.Lists.{zero_is}
-use Rattle.pc_rows.proofs.Ranges.{and_is}
 use Rattle.pc_flow.specs.declared.what.What.{What}
 use Rattle.pc_flow.specs.Carry.{BackFits, back}
 use Rattle.pc_flow.proofs.Lists.{each_more}
@@ -29,12 +29,6 @@ needed false f rest h = absurd (cc)
 
 none_lacks : (b : Bool) (f : Flaw) (rest : Option Flaw) → b ≡ true → rest ≡ None → needs b (Some f) rest ≡ None
 none_lacks b f rest h g = rw (h, g) refl
-
-at_least_if : (c : ℤ) → int_le (pos 0) c ≡ true → pos 0 ≤ℤ c
-at_least_if c h = grind (arith, ints)
-
-if_at_least : (c : ℤ) → pos 0 ≤ℤ c → int_le (pos 0) c ≡ true
-if_at_least c h = grind (arith, ints)
 
 below_if : (c : ℤ) → not (int_le (pos 0) c) ≡ true → c ≤ℤ negsuc 0
 below_if c h = grind (arith, ints)
@@ -70,12 +64,12 @@ proves_if premises goal p h =
     let signed = needed (is_signed p) Negative named h in
     let names = needed (names_premises (length premises) p) Index in_range signed.1 in
     let fits = needed (total_fits premises goal p) Past of_total names.1 in
-    let signs = and_is (list_all (λ q. int_le (pos 0) q.multiplier) p.parts) (int_le (pos 0) p.goal) signed.0 in
+    let signs = and_parts (list_all (λ q. int_le (pos 0) q.multiplier) p.parts) (int_le (pos 0) p.goal) signed.0 in
     let left = total_if (total premises goal p) fits.1 in
     record {
       shows = record {
-        goal_multiplier = at_least_if p.goal signs.1;
-        multipliers = each_if (λ (q : Part). int_le (pos 0) q.multiplier) (λ q. pos 0 ≤ℤ q.multiplier) (λ q. at_least_if q.multiplier) p.parts signs.0;
+        goal_multiplier = le_is (pos 0) p.goal signs.1;
+        multipliers = each_if (λ (q : Part). int_le (pos 0) q.multiplier) (λ q. pos 0 ≤ℤ q.multiplier) (λ q. le_is (pos 0) q.multiplier) p.parts signs.0;
         indices = names_if (length premises) p names.0;
         left = left.0;
         below = left.1;
@@ -90,8 +84,8 @@ if_proves premises goal p h =
     let named = needs (names_premises (length premises) p) (Some Index) in_range in
     none_lacks (is_signed p) Negative named
     (and_from _ _
-    (if_each (λ (q : Part). int_le (pos 0) q.multiplier) (λ q. pos 0 ≤ℤ q.multiplier) (λ q. if_at_least q.multiplier) p.parts h.shows.multipliers)
-    (if_at_least p.goal h.shows.goal_multiplier))
+    (if_each (λ (q : Part). int_le (pos 0) q.multiplier) (λ q. pos 0 ≤ℤ q.multiplier) (λ q. is_le (pos 0) q.multiplier) p.parts h.shows.multipliers)
+    (is_le (pos 0) p.goal h.shows.goal_multiplier))
     (none_lacks (names_premises (length premises) p) Index in_range
     (if_each (λ (q : Part). nat_lt q.index (length premises)) (λ q. q.index < length premises) (λ q. lt-ltb q.index (length premises)) p.parts h.shows.indices)
     (none_lacks (total_fits premises goal p) Past of_total (in_total premises goal p h.fits) (if_total (total premises goal p) h.shows.left h.shows.below)))

@@ -6,6 +6,5 @@ pub mod Ruled
 pub mod Sound
 pub mod Turns
 pub mod Edges
-pub mod Summing
 pub mod Worked
 pub mod Lean

@@ -3,11 +3,10 @@ use Rattle.std.proofs.Common.{◌≡◌, ℕ, zero, suc, ◌+◌, ◌≤◌, ℤ
 use Rattle.std.specs.Prelude.{◌&&◌}
 use Rattle.std.specs.List.{AllByRecursion, list_all, position_from}
 use Rattle.std.specs.Option.{is_some}
-use Rattle.std.proofs.lemmas.Bool.{eqb-true, and_from, not-false, not_from_true}
+use Rattle.std.proofs.lemmas.Bool.{eqb-true, and_from, not-false, not_from_true, and_parts}
 use Rattle.std.proofs.lemmas.Bool.Decides.{Decides-eqb}
 use Rattle.pc_rows.specs.Linear.{Linear, IsOver, is_zero}
 use Rattle.pc_rows.proofs.Lists.{zero_is}
-use Rattle.pc_rows.proofs.Ranges.{and_is}
 use Rattle.pc_flow.specs.Flow.{Flow}
 use Rattle.pc_certificate.specs.declared.certificate.Annotated.{Annotated}
 use Rattle.pc_certificate.specs.Certificate.{Certificate}
@@ -17,8 +16,8 @@ use Rattle.pc_replay.proofs.Alls.{each_if, if_each, none_passes, passes_none, ze
 
 zeros_if : (n : ℕ) (cs : List ℤ) → list_all is_zero (drop n cs) ≡ true → (v : ℕ) → n ≤ v → get_or cs v (pos 0) ≡ pos 0
 zeros_if n [] h v le = refl
-zeros_if zero (c ∷ cs) h zero le = zero_is c (and_is (is_zero c) (list_all is_zero cs) h).0
-zeros_if zero (c ∷ cs) h (suc v) le = zeros_if zero cs (and_is (is_zero c) (list_all is_zero cs) h).1 v (omega arith)
+zeros_if zero (c ∷ cs) h zero le = zero_is c (and_parts (is_zero c) (list_all is_zero cs) h).0
+zeros_if zero (c ∷ cs) h (suc v) le = zeros_if zero cs (and_parts (is_zero c) (list_all is_zero cs) h).1 v (omega arith)
 zeros_if (suc n) (c ∷ cs) h zero le = absurd (omega arith)
 zeros_if (suc n) (c ∷ cs) h (suc v) le = zeros_if n cs h v (omega arith)
 
@@ -48,8 +47,8 @@ equal a b e = (Decides-eqb a b).1 e
 
 shaped_if : (points edges variables : ℕ) (a : Annotated) → is_shaped points edges variables a ≡ true → IsShaped points edges variables a
 shaped_if points edges variables a h =
-    let all = and_is ((length a.rows == points) && (length a.proofs == edges)) (list_all (are_over variables) a.rows) h in
-    let lengths = and_is (length a.rows == points) (length a.proofs == edges) all.0 in
+    let all = and_parts ((length a.rows == points) && (length a.proofs == edges)) (list_all (are_over variables) a.rows) h in
+    let lengths = and_parts (length a.rows == points) (length a.proofs == edges) all.0 in
     record {
       rows = eqb-true (length a.rows) points lengths.0;
       proofs = eqb-true (length a.proofs) edges lengths.1;
@@ -68,9 +67,9 @@ shape_if g c h =
     let edges = c.edges == length g.edges in
     let variables = c.variables == g.variables in
     let each = list_all (is_shaped c.points c.edges c.variables) c.alternatives in
-    let all = and_is (points && edges && variables) each h in
-    let three = and_is (points && edges) variables all.0 in
-    let two = and_is points edges three.0 in
+    let all = and_parts (points && edges && variables) each h in
+    let three = and_parts (points && edges) variables all.0 in
+    let two = and_parts points edges three.0 in
     record {
       points = eqb-true c.points (length g.points) two.0;
       edges = eqb-true c.edges (length g.edges) two.1;

@@ -3,7 +3,7 @@ use Rattle.std.specs.Prelude.{◌≡◌, List, length}
 use Rattle.std.specs.List.{AllByRecursion, zip}
 use Rattle.pc_rows.specs.Linear.{Linear, IsOver}
 use Rattle.pc_rows.specs.Evidence.{Proof}
-use Rattle.pc_rows.specs.Shows.{Shows, TotalFits}
+pub use Rattle.pc_rows.specs.Shows.{Proves}
 use Rattle.pc_flow.specs.declared.what.What.{What}
 use Rattle.pc_flow.specs.Arc.{Arc}
 use Rattle.pc_flow.specs.Carry.{BackFits, back, owes}
@@ -14,11 +14,6 @@ use Rattle.pc_flow.specs.Carry.{asked}
 use Rattle.pc_flow.specs.Annotation.{rows_at}
 use Rattle.pc_flow.specs.Carry.{premises}
 use Rattle.pc_replay.specs.Shape.{HasShape}
-
--- a proof shows the goal from the premises, and all that is computed for its total is in range
-pub record Proves (premises : List Linear) (goal : Linear) (p : Proof) : Type 0 where
-  pub shows : Shows premises goal p
-  pub fits : TotalFits premises goal p
 
 -- a row is carried back over the edge in range, and the proof shows what it becomes
 pub record RowProved (w : What) (premises : List Linear) (r : Linear) (p : Proof) : Type 0 where

@@ -1,10 +1,11 @@
 -- What is wrong with a proof of a row that an edge owes: the first of its flaws, in the order of the rule.
-use Rattle.std.specs.Prelude.{ℕ, ℤ, nat_lt, ◌&&◌, Bool, pos, int_le, List, length, Option, Some, None, if◌then◌else◌}
-use Rattle.std.specs.List.{list_all, position_from}
+use Rattle.std.specs.Prelude.{ℕ, nat_lt, ◌&&◌, Bool, pos, int_le, List, length, Option, Some, None, if◌then◌else◌}
+use Rattle.std.specs.List.{list_all}
 use Rattle.std.specs.Prelude.{not}
-use Rattle.pc_rows.specs.Linear.{Linear, is_zero}
+use Rattle.pc_rows.specs.Linear.{Linear}
 use Rattle.pc_rows.specs.Evidence.{Proof}
 use Rattle.pc_rows.specs.Shows.{total}
+use Rattle.pc_rows.specs.Totals.{first_variable}
 use Rattle.pc_flow.specs.declared.what.What.{What}
 use Rattle.pc_flow.specs.Carry.{back}
 use Rattle.pc_replay.specs.declared.flaw.Flaw.{Flaw}
@@ -22,10 +23,6 @@ is_signed p = list_all (λ q. int_le (pos 0) q.multiplier) p.parts && int_le (po
 -- each part names one of so many premises
 abbrev pub names_premises : ℕ → Proof → Bool
 names_premises count p = list_all (λ q. nat_lt q.index count) p.parts
-
--- the first variable whose coefficient is not 0
-abbrev pub first_variable : List ℤ → Option ℕ
-first_variable cs = position_from (λ c. not (is_zero c)) 0 cs
 
 -- what is wrong with a total: its first variable, or that its constant is not below 0
 abbrev pub flaw_by : Option ℕ → Bool → Option Flaw

@@ -1,6 +1,5 @@
 pub mod Shape
 pub mod Ranges
-pub mod Totals
 pub mod Flaws
 pub mod Rule
 pub mod Accepts

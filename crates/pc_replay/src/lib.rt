@@ -12,7 +12,6 @@ mod proof;
 mod replay;
 mod ruling;
 mod shape;
-mod totals;
 
 pub use laws::{accepted_is_lean, accepted_is_safe, rule_is_meant};
 pub use replay::accept;

@@ -2,15 +2,13 @@
 
 ghost use Rattle.std.specs.Prelude.{◌≡◌, ◌<◌, length, OkIff};
 ghost use Rattle.std.specs.List.{AllByRecursion};
-ghost use Rattle.pc_rows.specs.Shows.{total, TotalFits};
+ghost use Rattle.pc_rows.specs.Shows.{with_parts, total, PartsFit, TotalFits};
 ghost use Rattle.pc_flow.specs.Carry.{premises};
 ghost use Rattle.pc_replay.specs.Flaws.{is_signed, names_premises, flaw};
-ghost use Rattle.pc_replay.specs.Totals.{AddPartsIs};
 
 use crate::flaw::Flaw;
-use crate::totals::Total;
 use pc_flow::Edge;
-use pc_rows::{Parts, Past, Proof, Row, Rows};
+use pc_rows::{Parts, Past, Proof, Row, Rows, Total};
 
 /// Whether no multiplier is below 0.
 fn is_signed(p: &Proof) -> bool
@@ -44,24 +42,21 @@ fn total(e: &Edge, rows: &Rows, goal: &Row, p: &Proof) -> Result<Total, Past>
     requires { AllByRecursion (λ q. q.index < length (premises e.now.what rows.now)) p.now.parts }
     ensures { OkIff result (TotalFits (premises e.now.what rows.now) goal.now p.now) (total (premises e.now.what rows.now) goal.now p.now) }
 {
-    let _row = goal.constant();
-    let negated = goal.negated()?;
-    let mut total = Total::new();
-    total.add(p.goal(), &negated)?;
-    add_parts(&mut total, e, rows, p.parts())?;
-    Ok(total)
+    let start = goal.negated()?.times(p.goal())?;
+    with_parts(e, rows, Total::of_row(&start), p.parts())
 }
 
-/// Adds the premises that are named in order, each times its multiplier.
-fn add_parts(total: &mut Total, e: &Edge, rows: &Rows, parts: &Parts) -> Result<(), Past>
+/// The start, and the premises that are named added to it in order, each times its multiplier.
+fn with_parts(e: &Edge, rows: &Rows, start: Total, parts: &Parts) -> Result<Total, Past>
     requires { AllByRecursion (λ q. q.index < length (premises e.now.what rows.now)) parts.now }
-    ensures { AddPartsIs (premises e.now.what rows.now) total.old parts.now result total.new }
+    ensures { OkIff result (PartsFit (premises e.now.what rows.now) start parts.now) (with_parts (premises e.now.what rows.now) start parts.now) }
 {
+    let mut sum = start;
     for i in 0..parts.len() {
         let part = parts.at(i);
-        total.add(part.multiplier, e.premise(rows, part.index as usize))?;
+        sum.add(part.multiplier, e.premise(rows, part.index as usize))?;
     }
-    Ok(())
+    Ok(sum)
 }
 
 /// The first thing that is wrong with a proof of the goal over an edge, where `rows` are those of the
@@ -76,7 +71,7 @@ pub fn flaw(e: &Edge, rows: &Rows, goal: &Row, p: &Proof) -> Option<Flaw>
         return Some(Flaw::Index);
     }
     match total(e, rows, goal, p) {
-        Ok(total) => total.flaw(),
+        Ok(total) => Flaw::of_total(&total),
         Err(Past) => Some(Flaw::Past),
     }
 }

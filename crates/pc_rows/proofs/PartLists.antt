@@ -8,7 +8,7 @@ use Rattle.pc_rows.specs.Evidence.{IsAbove}
 use Rattle.pc_rows.specs.Parts.{parts_from}
 use Rattle.pc_rows.proofs.Rising.{above_more}
 
-abbrev part : ℕ → ℤ → Part
+abbrev pub part : ℕ → ℤ → Part
 part i m = record { index = i; multiplier = m }
 
 -- what holds of each multiplier holds of that of each part

@@ -3,13 +3,10 @@ use Rattle.std.proofs.Common.{◌≡◌, ℤ, List, [], ◌∷◌, Bool, true, f
 use Rattle.std.specs.Prelude.{◌&&◌}
 use Rattle.std.specs.List.{list_all}
 use Rattle.std.proofs.lemmas.Bool.{and_parts, false_from_ne_true}
+pub use Rattle.std.proofs.lemmas.Bool.{and_parts as and_is}
 use Rattle.std.proofs.lemmas.Bool.Decides.{nat_tests}
 use Rattle.pc_rows.specs.Linear.{Linear, InRange, AllInRange, IsInRange, in_range, is_in_range, fits}
 use Rattle.pc_rows.specs.Laws.{RangeIsMeant}
-
-pub and_is : (b c : Bool) → (b && c) ≡ true → (b ≡ true) × (c ≡ true)
-and_is true c h = (refl, h)
-and_is false c h = cc
 
 pub in_is : (z : ℤ) → InRange z → in_range z ≡ true
 in_is z h = grind (arith, nat_tests)

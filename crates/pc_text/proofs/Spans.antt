@@ -14,6 +14,10 @@ pub wider : (low at high : ℕ) (ts : List Token) → low ≤ at → AreSpans at
 wider low at high [] h s = omega arith
 wider low at high (t ∷ ts) h (a, b, s) = (omega arith, b, s)
 
+pub ends_within : (low high : ℕ) (ts : List Token) → AreSpans low high ts → low ≤ high
+ends_within low high [] h = h
+ends_within low high (t ∷ ts) (a, b, s) = let e = ends_within t.to high ts s in omega arith
+
 with_more : (k : Option Kind) (at to high : ℕ) (ts : List Token) → at < to → AreSpans to high ts → AreSpans at high (with_token k at to ts)
 with_more None at to high ts h s = wider at to high ts (omega arith) s
 with_more (Some k) at to high ts h s = (omega arith, h, s)

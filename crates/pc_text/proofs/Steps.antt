@@ -42,15 +42,6 @@ pub turn : (s : Bytes) (found : List Token) (at : ℕ) (x : Option Kind × ℕ) 
     → from s found at ≡ from s (more found x.0 at (at + x.1)) (at + x.1)
 turn s found at x i e h l = let d = drop-cons s at 0 i in turn_on s found at (get_or s at 0) (drop (suc at) s) x d (ap (piece_at s at) (sym d) ∙ e) h l
 
-pub turn_fault : (s : Bytes) (found : List Token) (at : ℕ) (e : LexFault) → at < length s → piece_at s at (drop at s) ≡ Err e → from s found at ≡ Err e
-turn_fault s found at e i h =
-    let d = drop-cons s at 0 i in
-    let r = drop (suc at) s in
-    ap (λ q. with_found found (lex_from s 0 at q)) d ∙ ap (λ q. with_found found (with_piece at q (λ k. lex_from s k (at + 1) r))) (ap (piece_at s at) (sym d) ∙ h)
-
-pub end : (s : Bytes) (found : List Token) (at : ℕ) → length s ≤ at → from s found at ≡ Ok found
-end s found at h = ap (λ q. with_found found (lex_from s 0 at q)) (drop_all at s h) ∙ ap Ok (append-nil found)
-
 pub begin : (s : Bytes) → lex s ≡ from s [] 0
 unfolding lex
 begin s = sym (none (lex_from s 0 0 s))

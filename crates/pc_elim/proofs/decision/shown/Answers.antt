@@ -1,7 +1,7 @@
 use Rattle.std.proofs.Common.{◌∙◌, ap, sym, subst, length, ℕ}
 use Rattle.pc_rows.specs.Evidence.{Proof, IsAbove}
 use Rattle.pc_elim.specs.Settling.{proof_of}
-use Rattle.pc_elim.proofs.Proving.{parts_within}
+use Rattle.pc_rows.proofs.PartLists.{parts_within}
 use Rattle.pc_elim.proofs.decision.shown.Goals as goal
 
 pub total-requires : goal.total-requires

@@ -13,7 +13,7 @@ pub returns-in-Ok : goal.returns-in-Ok
 returns-in-Ok c =
     let all = premises c.args.e.now.what c.args.rows.now in
     flaw_found all c.args.goal.now c.args.p.now (sym c.if-not-is_signed.ensures) (ap (λ n. names_premises n c.args.p.now) (sym c.premises.ensures.value) ∙ sym c.if-not-names_premises.ensures)
-    c.in-Ok.total c.flaw.result c.in-Ok.ensures c.flaw.ensures
+    c.in-Ok.total c.of_total.result c.in-Ok.ensures c.of_total.ensures
 
 pub returns-in-Err : goal.returns-in-Err
 returns-in-Err c =
