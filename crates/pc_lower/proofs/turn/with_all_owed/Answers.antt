@@ -5,7 +5,7 @@ use Rattle.pc_rows.proofs.Adding.{drop_got}
 use Rattle.pc_lower.specs.Candidate.{with_owed}
 use Rattle.pc_lower.specs.Course.{owed_operations}
 use Rattle.pc_lower.specs.Operations.{after_all}
-use Rattle.pc_lower.proofs.Going.{Goes, goes_none, goes_next, goes_refused, goes_all}
+use Rattle.pc_lower.proofs.Going.{Goes, goes_none, goes_next, goes_refused}
 use Rattle.pc_lower.proofs.turn.with_all_owed.Goals as goal
 
 pub loop-i-init : goal.loop-i-init
