@@ -1,8 +1,8 @@
 -- The test whether a row is steady.
-use Rattle.std.proofs.Common.{◌≡◌, ◌∙◌, ℕ, suc, zero, ◌<◌, ◌≤◌, ◌≢◌, List, [], ◌∷◌, ◌++◌, length, map, sym, refl, ap, subst, cond, Bool, true, false, arith, inl, inr}
+use Rattle.std.proofs.Common.{◌≡◌, ◌∙◌, ℕ, suc, zero, ◌+◌, ◌<◌, ◌≤◌, ◌≢◌, List, [], ◌∷◌, ◌++◌, length, length-set, map, set, sym, refl, ap, subst, cond, Bool, true, false, arith, inl, inr}
 use Rattle.std.specs.Prelude.{◌⊎◌}
 use Rattle.std.specs.List.{AllByRecursion as Each, list_all}
-use Rattle.std.proofs.lemmas.List.{get_or-set_other}
+use Rattle.std.proofs.lemmas.List.{get_or-set_same, get_or-set_other, ext_get_or}
 use Rattle.pc_rows.specs.Linear.{Linear}
 use Rattle.pc_rows.specs.Joins.{is_covered, joined}
 use Rattle.pc_rows.specs.declared.rows.TheConstants.{ROWS}
@@ -20,11 +20,12 @@ use Rattle.pc_lower.specs.Annotation.{is_head, no_rows, AreFew}
 use Rattle.pc_lower.specs.Candidate.{alone, is_steady}
 use Rattle.pc_lower.specs.Unchecked.{unchecked, unasserted, unasserted_arc}
 use Rattle.pc_lower.specs.Course.{operations_between, steady_operations}
-use Rattle.pc_lower.specs.Fresh.{IsFresh, IsRefreshed, NoneReaches}
+use Rattle.pc_lower.specs.Fresh.{IsFresh, IsRefreshed, IsCleared, NoneReaches}
 use Rattle.pc_flow.specs.Incidence.{leaving}
 use Rattle.pc_lower.specs.Need.{demanded, gathered, filled_below, need}
 use Rattle.pc_lower.specs.Operations.{Fits, carries, edges_operations}
 use Rattle.pc_lower.proofs.Agreeing.{each_both, each_leaving, is_the_head}
+use Rattle.pc_lower.proofs.Annotations.{none_long}
 use Rattle.pc_lower.proofs.Meaning.{need_is}
 use Rattle.pc_lower.proofs.Freshness.{fresh_is_need, fresh_fits}
 use Rattle.pc_lower.proofs.Seeing.{seen_leads}
@@ -113,6 +114,35 @@ module _ (g : Flow) (leads : Each (LeadsUp g.points g.variables) g.edges) (h : �
         by ups (inl rises) = fresh_is_need (unchecked g) ups new done.long low done.fresh e.to (omega arith)
         by ups (inr head) = sym ((need_is (unchecked g) ups new).given e.to (is_the_head g.points e.to up.reaches head))
 
+    -- where the points of the loop lose their rows, no rows are left
+    pub left_blank : IsRefreshed (unchecked g) low (alone g h r) new → (n : ℕ) → h < n → NoneReaches h n g.edges → (cleared : List (List Linear)) → IsCleared h n new cleared →
+        cleared ≡ no_rows g.points
+    left_blank done n after none cleared is =
+        ext_get_or [] cleared (no_rows g.points) (is.long ∙ done.long ∙ sym (none_long g.points))
+        (λ q lt. by q (let either : (q < h) ⊎ (h ≤ q) = grind arith in either) (let either : (q < n) ⊎ (n ≤ q) = grind arith in either) ∙ sym (none_rows g.points q))
+      where
+        ups : Each (LeadsUp g.points g.variables) (unchecked g).edges
+        ups = seen_leads false g leads
+
+        same : need (unchecked g) new ≡ need (unchecked g) (alone g h r)
+        same = ap (filled_below (unchecked g) (length g.points)) done.heads
+
+        long : length (alone g h r) ≡ length g.points
+        long = length-set (no_rows g.points) h (r ∷ []) ∙ none_long g.points
+
+        -- the points after the loop need nothing
+        past : (q : ℕ) → n ≤ q → rows_at new q ≡ []
+        past q le =
+            fresh_is_need (unchecked g) ups new done.long low done.fresh q (omega arith)
+            ∙ ap (λ (z : List (List Linear)). rows_at z q) same
+            ∙ sym (fresh_is_need (unchecked g) ups (alone g h r) long n (fresh_alone n after none) q le)
+            ∙ alone_other q (omega arith)
+
+        by : (q : ℕ) → (q < h) ⊎ (h ≤ q) → (q < n) ⊎ (n ≤ q) → rows_at cleared q ≡ []
+        by q (inl lt) other = is.below q lt ∙ done.below q (omega arith) ∙ alone_other q (omega arith)
+        by q (inr le) (inl lt) = is.within q le lt
+        by q (inr le) (inr ge) = is.above q ge ∙ past q ge
+
 pub checked_by : (b : Bool) (r : Linear) (one own others rows target : List Linear) → b ≡ list_all (λ x. is_covered x (one ++ own)) rows → one ≡ r ∷ [] → own ≡ others → rows ≡ target →
     b ≡ list_all (λ x. is_covered x (r ∷ others)) target
 checked_by b r one own others rows target is same also at =
@@ -120,3 +150,25 @@ checked_by b r one own others rows target is same also at =
     ∙ ap (λ (z : List Linear). list_all (λ x. is_covered x (z ++ own)) rows) same
     ∙ ap (λ (z : List Linear). list_all (λ x. is_covered x (r ∷ z)) rows) also
     ∙ ap (list_all (λ x. is_covered x (r ∷ others))) at
+
+-- the loop that takes rows away
+
+pub clears_none : (low : ℕ) (old : List (List Linear)) → IsCleared low low old old
+clears_none low old = record { long = refl; within = λ p le lt. absurd (omega arith); below = λ p lt. refl; above = λ p le. refl }
+
+pub clears_next : (low p : ℕ) (old rows new : List (List Linear)) (none : List Linear) → low ≤ p → p < length old → none ≡ [] → new ≡ set rows p none → IsCleared low p old rows →
+    IsCleared low (p + 1) old new
+clears_next low p old rows new none le lt empty is so_far =
+    subst (IsCleared low (p + 1) old) (sym is) (record {
+      long = length-set rows p none ∙ so_far.long;
+      within = λ q ge less. by q ge (let either : (q ≡ p) ⊎ (q < p) = grind arith in either);
+      below = λ q less. get_or-set_other rows p q none [] (omega arith) ∙ so_far.below q less;
+      above = λ q ge. get_or-set_other rows p q none [] (omega arith) ∙ so_far.above q (omega arith);
+    })
+  where
+    by : (q : ℕ) → low ≤ q → (q ≡ p) ⊎ (q < p) → rows_at (set rows p none) q ≡ []
+    by q ge (inl same) = ap (rows_at (set rows p none)) same ∙ get_or-set_same rows p none [] (let long = so_far.long in omega arith) ∙ empty
+    by q ge (inr less) = get_or-set_other rows p q none [] (omega arith) ∙ so_far.within q ge less
+
+pub clears_all : (low p high : ℕ) (old new : List (List Linear)) → p ≤ high → high ≤ p → IsCleared low p old new → IsCleared low high old new
+clears_all low p high old new le ge h = let same : p ≡ high = omega arith in subst (λ (n : ℕ). IsCleared low n old new) same h

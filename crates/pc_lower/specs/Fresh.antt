@@ -1,5 +1,5 @@
 -- What the code keeps while it finds a candidate: one annotation, whose rows at heads are those so far, and whose rows at other points are up to date from some number on.
-use Rattle.std.specs.Prelude.{◌≡◌, ◌≤◌, ℕ, false, List, [], length, slice_set, Result, Ok, Err}
+use Rattle.std.specs.Prelude.{◌≡◌, ◌<◌, ◌≤◌, ◌⊎◌, ℕ, false, List, [], length, slice_set, Result, Ok, Err}
 use Rattle.std.specs.List.{AllByRecursion as Each}
 use Rattle.pc_rows.specs.Linear.{Linear}
 use Rattle.pc_flow.specs.Annotation.{rows_at}
@@ -8,7 +8,7 @@ use Rattle.pc_flow.specs.Flow.{Flow}
 use Rattle.pc_lower.specs.declared.fault.CandidateFault.{CandidateFault}
 use Rattle.pc_lower.specs.declared.fault.CandidateFault.TheVariants.{Past, Full, NoMemory}
 use Rattle.pc_lower.specs.declared.mode.Mode.{Mode}
-use Rattle.pc_lower.specs.Annotation.{is_head, AreFew}
+use Rattle.pc_lower.specs.Annotation.{is_head, no_rows, AreFew}
 use Rattle.pc_lower.specs.Candidate.{turned, turns_below}
 use Rattle.pc_lower.specs.Course.{operations_between, turned_operations, turns_operations}
 use Rattle.pc_lower.specs.Need.{needed_at, at_heads, need}
@@ -25,6 +25,7 @@ pub record IsRefreshed (g : Flow) (low : ℕ) (old new : List (List Linear)) : T
   pub few : AreFew new
   pub heads : at_heads g.points new ≡ at_heads g.points old
   pub fresh : IsFresh g low new
+  pub below : (p : ℕ) → p < low → rows_at new p ≡ rows_at old p
 
 -- or the first operation of the need that is refused is told
 abbrev pub RefreshIs : Flow → ℕ → List (List Linear) → Result (Unit {0}) CandidateFault → List (List Linear) → Type 0
@@ -36,6 +37,17 @@ RefreshIs g low old (Err NoMemory) new = Unit {0}
 -- no edge from a point with number n or a greater one leads to point h
 abbrev pub NoneReaches : ℕ → ℕ → List Arc → Type 0
 NoneReaches h n edges = Each (λ e. n ≤ e.from → e.to ≡ h → ⊥) edges
+
+-- no rows at any point, or no point yet
+abbrev pub IsBlank : Flow → List (List Linear) → Type 0
+IsBlank g a = (a ≡ []) ⊎ (a ≡ no_rows g.points)
+
+-- the points from number `low` on and below number `high` lose their rows
+pub record IsCleared (low high : ℕ) (old new : List (List Linear)) : Type 0 where
+  pub long : length new ≡ length old
+  pub within : (p : ℕ) → low ≤ p → p < high → rows_at new p ≡ []
+  pub below : (p : ℕ) → p < low → rows_at new p ≡ rows_at old p
+  pub above : (p : ℕ) → high ≤ p → rows_at new p ≡ rows_at old p
 
 -- an update by these operations: P holds of the value and of the new rows, or the first operation that is refused is told
 abbrev pub Updates : {A : Type 0} → List Operation → (A → List (List Linear) → Type 0) → Result A CandidateFault → List (List Linear) → Type 0

@@ -1,58 +1,89 @@
 //! Lifts of the rows that are owed over the edges of a head.
 
-ghost use Rattle.std.specs.Prelude.{◌≡◌, ◌<◌, length, drop, true};
+ghost use Rattle.std.specs.Prelude.{◌≡◌, drop, true, IfOk};
 ghost use Rattle.pc_flow.specs.Carry.{test_rows};
 ghost use Rattle.pc_flow.specs.Shape.{LeadsUp};
 ghost use Rattle.pc_lower.specs.Annotation.{is_head};
 ghost use Rattle.pc_lower.specs.Candidate.{tilted, escaped, lift, lifted};
 ghost use Rattle.pc_lower.specs.Course.{tilt_operations, escape_operations, lift_operations, lifted_operations};
+ghost use Rattle.pc_lower.specs.Fresh.{IsBlank};
 ghost use Rattle.pc_lower.specs.Operations.{Answers};
 
 use crate::fault::CandidateFault;
 use crate::mode::Mode;
 use crate::steady::is_steady;
-use pc_flow::{Edge, Graph};
+use pc_flow::{Annotation, Edge, Graph};
 use pc_rows::{Row, Rows};
 use std::alloc::Global;
 
 /// The lift of a row that is owed over an edge from a head: over an edge that does not lead into the body of the head's
 /// loop, the row.
-pub fn lifted(alloc: Global, g: &Graph, m: Mode, e: &Edge, r: &Row) -> Result<Row, CandidateFault>
+pub fn lifted(
+    alloc: Global,
+    g: &Graph,
+    m: Mode,
+    e: &Edge,
+    r: &Row,
+    tests: &mut Annotation,
+) -> Result<Row, CandidateFault>
     requires head { is_head g.now.points e.now.from ≡ true }
     requires leads { LeadsUp g.now.points g.now.variables e.now }
-    ensures { Answers (lifted_operations g.now m e.now r.now) (lifted g.now m e.now r.now) result }
+    requires blank { IsBlank g.now tests.old }
+    ensures answer { Answers (lifted_operations g.now m e.now r.now) (lifted g.now m e.now r.now) result }
+    ensures blank { IfOk result (λ _. IsBlank g.now tests.new) }
 {
     if e.body {
-        lift(alloc, g, m, e, r)
+        lift(alloc, g, m, e, r, tests)
     } else {
         Ok(r.copy())
     }
 }
 
 /// The lift of a row that is owed over an edge into the body of a loop.
-fn lift(alloc: Global, g: &Graph, m: Mode, e: &Edge, r: &Row) -> Result<Row, CandidateFault>
+fn lift(
+    alloc: Global,
+    g: &Graph,
+    m: Mode,
+    e: &Edge,
+    r: &Row,
+    tests: &mut Annotation,
+) -> Result<Row, CandidateFault>
     requires head { is_head g.now.points e.now.from ≡ true }
     requires leads { LeadsUp g.now.points g.now.variables e.now }
-    ensures { Answers (lift_operations g.now m e.now r.now) (lift g.now m e.now r.now) result }
+    requires blank { IsBlank g.now tests.old }
+    ensures answer { Answers (lift_operations g.now m e.now r.now) (lift g.now m e.now r.now) result }
+    ensures blank { IfOk result (λ _. IsBlank g.now tests.new) }
 {
     match m {
         Mode::Hint => Ok(r.copy()),
         Mode::Plain => Ok(r.copy()),
-        Mode::Tilt1 => tilted(alloc, g, e, r, 0),
-        Mode::Tilt2 => tilted(alloc, g, e, r, 1),
+        Mode::Tilt1 => tilted(alloc, g, e, r, 0, tests),
+        Mode::Tilt2 => tilted(alloc, g, e, r, 1, tests),
         Mode::Escape => escaped(alloc, e, r),
     }
 }
 
 /// A row that is not steady, minus row `k` of the edge's test; where it is steady, or there is no such row, the row.
-fn tilted(alloc: Global, g: &Graph, e: &Edge, r: &Row, k: usize) -> Result<Row, CandidateFault>
+fn tilted(
+    alloc: Global,
+    g: &Graph,
+    e: &Edge,
+    r: &Row,
+    k: usize,
+    tests: &mut Annotation,
+) -> Result<Row, CandidateFault>
     requires head { is_head g.now.points e.now.from ≡ true }
     requires leads { LeadsUp g.now.points g.now.variables e.now }
-    ensures { let own = drop k (test_rows e.now.what) in Answers (tilt_operations g.now e.now r.now own) (tilted g.now e.now r.now own) result }
+    requires blank { IsBlank g.now tests.old }
+    ensures answer { let own = drop k (test_rows e.now.what) in Answers (tilt_operations g.now e.now r.now own) (tilted g.now e.now r.now own) result }
+    ensures blank { IfOk result (λ _. IsBlank g.now tests.new) }
 {
     let none = Rows::new(alloc);
     let own = e.test_rows(&none);
-    if own.len() <= k || is_steady(alloc, g, e, r)? {
+    if own.len() <= k {
+        return Ok(r.copy());
+    }
+    if is_steady(alloc, g, e, r, tests)? {
         return Ok(r.copy());
     }
     Ok(r.minus(own.at(k))?)

@@ -1,12 +1,13 @@
 //! Whether a row is kept by the body of a loop.
 
-ghost use Rattle.std.specs.Prelude.{◌≡◌, ◌<◌, ◌∷◌, ◌++◌, [], length, true, IfOk};
+ghost use Rattle.std.specs.Prelude.{◌≡◌, ◌<◌, ◌≤◌, ◌∷◌, ◌++◌, [], length, true, IfOk};
 ghost use Rattle.std.specs.List.{list_all};
 ghost use Rattle.pc_rows.specs.Joins.{is_covered};
 ghost use Rattle.pc_flow.specs.Shape.{LeadsUp};
-ghost use Rattle.pc_lower.specs.Annotation.{AreFew, is_head};
+ghost use Rattle.pc_lower.specs.Annotation.{AreFew, is_head, no_rows};
 ghost use Rattle.pc_lower.specs.Candidate.{alone, is_steady};
 ghost use Rattle.pc_lower.specs.Course.{steady_operations};
+ghost use Rattle.pc_lower.specs.Fresh.{IsBlank, IsCleared};
 ghost use Rattle.pc_lower.specs.Operations.{Answers};
 
 use crate::annotation::no_rows;
@@ -17,35 +18,75 @@ use pc_rows::{NoMemory, Row, Rows, covered};
 use std::alloc::Global;
 
 /// Whether a row at the head from which an edge leads is steady over the edge: the row alone, with assertions left out,
-/// needs nothing at the edge's target that it and the edge's test do not cover.
-pub fn is_steady(alloc: Global, g: &Graph, e: &Edge, r: &Row) -> Result<bool, CandidateFault>
+/// needs nothing at the edge's target that it and the edge's test do not cover. `tests` is room for the rows of the loop's
+/// points, which is left without rows, so that a test costs no more than its loop.
+pub fn is_steady(
+    alloc: Global,
+    g: &Graph,
+    e: &Edge,
+    r: &Row,
+    tests: &mut Annotation,
+) -> Result<bool, CandidateFault>
     requires head { is_head g.now.points e.now.from ≡ true }
     requires leads { LeadsUp g.now.points g.now.variables e.now }
-    ensures { Answers (steady_operations g.now e.now.from r.now) (is_steady g.now e.now r.now) result }
+    requires blank { IsBlank g.now tests.old }
+    ensures answer { Answers (steady_operations g.now e.now.from r.now) (is_steady g.now e.now r.now) result }
+    ensures blank { IfOk result (λ _. IsBlank g.now tests.new) }
 {
     // what a graph keeps
     let _points = g.points();
-    let mut rows = alone(alloc, g, e.from, r)?;
+    put_alone(alloc, g, e.from, r, tests)?;
     let end = end_of_loop(g, e.from);
-    refresh(alloc, g, false, e.from + 1, end, &mut rows)?;
+    refresh(alloc, g, false, e.from + 1, end, tests)?;
     let none = Rows::new(alloc);
     let one = single(alloc, r.copy())?;
-    Ok(all_covered(rows_at(&rows, e.to), &one, e.test_rows(&none)))
+    let steady = all_covered(rows_at(tests, e.to), &one, e.test_rows(&none));
+    clear(alloc, e.from, end, tests);
+    Ok(steady)
 }
 
-/// One row at a head, and none at other points.
-fn alone(alloc: Global, g: &Graph, h: u32, r: &Row) -> Result<Annotation, NoMemory>
-    requires { h < length g.now.points }
-    ensures rows { IfOk result (λ a. a ≡ alone g.now h r.now) }
-    ensures few { IfOk result AreFew }
-    ensures long { IfOk result (λ a. length a ≡ length g.now.points) }
+/// Puts one row at a head, where there are none at other points.
+fn put_alone(
+    alloc: Global,
+    g: &Graph,
+    h: u32,
+    r: &Row,
+    tests: &mut Annotation,
+) -> Result<(), NoMemory>
+    requires point { h < length g.now.points }
+    requires blank { IsBlank g.now tests.old }
+    ensures rows { IfOk result (λ _. tests.new ≡ alone g.now h r.now) }
+    ensures few { IfOk result (λ _. AreFew tests.new) }
+    ensures long { IfOk result (λ _. length tests.new ≡ length g.now.points) }
 {
     let rows = single(alloc, r.copy())?;
     // its length tells that the list is within its limit
     let _most = rows.len();
-    let mut all = no_rows(alloc, g)?;
-    all.set(h as usize, rows);
-    Ok(all)
+    make_room(alloc, g, tests)?;
+    tests.set(h as usize, rows);
+    Ok(())
+}
+
+/// Makes room for the rows of all points where there is none yet.
+fn make_room(alloc: Global, g: &Graph, tests: &mut Annotation) -> Result<(), NoMemory>
+    requires { IsBlank g.now tests.old }
+    ensures { IfOk result (λ _. tests.new ≡ no_rows g.now.points) }
+{
+    if tests.len() == 0 {
+        *tests = no_rows(alloc, g)?;
+    }
+    Ok(())
+}
+
+/// Takes the rows away at the points from `low` on and below `high`.
+fn clear(alloc: Global, low: u32, high: u32, rows: &mut Annotation)
+    requires ordered { low ≤ high }
+    requires within { high ≤ length rows.old }
+    ensures { IsCleared low high rows.old rows.new }
+{
+    for p in low..high {
+        rows.set(p as usize, Rows::new(alloc));
+    }
 }
 
 /// The list of one row.

@@ -1,6 +1,6 @@
 //! Turns of heads.
 
-ghost use Rattle.std.specs.Prelude.{◌≡◌, ◌<◌, length, true};
+ghost use Rattle.std.specs.Prelude.{◌≡◌, ◌<◌, length, true, IfOk};
 ghost use Rattle.std.specs.List.{AllByRecursion as Each};
 ghost use Rattle.pc_flow.specs.Annotation.{rows_at};
 ghost use Rattle.pc_flow.specs.Carry.{back_all, owes};
@@ -9,6 +9,7 @@ ghost use Rattle.pc_flow.specs.Shape.{LeadsUp};
 ghost use Rattle.pc_lower.specs.Annotation.{is_head};
 ghost use Rattle.pc_lower.specs.Candidate.{with_owed, with_edge_owed, turned_from};
 ghost use Rattle.pc_lower.specs.Course.{owed_operations, edge_owed_operations, edges_carries, turned_from_operations};
+ghost use Rattle.pc_lower.specs.Fresh.{IsBlank};
 ghost use Rattle.pc_lower.specs.Operations.{Answers, Fits, after_all, operations_of_all, carries};
 
 use crate::carry::carried;
@@ -19,6 +20,7 @@ use crate::need::joined;
 use crate::steady::{covered_by, single};
 use pc_flow::{Annotation, Edge, Graph, What, rows_at};
 use pc_rows::{Row, Rows};
+use sqlite_items::Items;
 use std::alloc::Global;
 
 /// The rows of head `h` after a turn that begins with these rows of the points: first all that its edges owe is carried
@@ -137,8 +139,10 @@ fn with_all_owed(
     ensures { Answers (operations_of_all (with_owed g.now m e.now begun.now) (owed_operations g.now m e.now begun.now) present owed.now) (after_all (with_owed g.now m e.now begun.now) present owed.now) result }
 {
     let mut rows = present;
+    // room for steady tests
+    let mut tests = Items::new(alloc);
     for i in 0..owed.len() {
-        rows = with_owed(alloc, g, m, e, begun, rows, owed.at(i))?;
+        rows = with_owed(alloc, g, m, e, begun, rows, owed.at(i), &mut tests)?;
     }
     Ok(rows)
 }
@@ -152,15 +156,18 @@ fn with_owed(
     begun: &Rows,
     rows: Rows,
     r: &Row,
+    tests: &mut Annotation,
 ) -> Result<Rows, CandidateFault>
     requires head { is_head g.now.points e.now.from ≡ true }
     requires leads { LeadsUp g.now.points g.now.variables e.now }
-    ensures { Answers (owed_operations g.now m e.now begun.now rows r.now) (with_owed g.now m e.now begun.now rows r.now) result }
+    requires blank { IsBlank g.now tests.old }
+    ensures answer { Answers (owed_operations g.now m e.now begun.now rows r.now) (with_owed g.now m e.now begun.now rows r.now) result }
+    ensures blank { IfOk result (λ _. IsBlank g.now tests.new) }
 {
     let none = Rows::new(alloc);
     if covered_by(r, begun, e.test_rows(&none)) {
         return Ok(rows);
     }
-    let lift = lifted(alloc, g, m, e, r)?;
+    let lift = lifted(alloc, g, m, e, r, tests)?;
     joined(&rows, &single(alloc, lift)?)
 }

@@ -11,7 +11,7 @@ use Rattle.pc_lower.proofs.refresh.refresh.Goals as goal
 pub loop-p-init : goal.loop-p-init
 loop-p-init c =
     let points = seen_points_long c.args.asserted c.args.g.now in
-    record { within = omega (arith, c.requires.within); long = c.requires.long ∙ sym points; few = c.requires.few; heads = refl; fresh = c.requires.fresh }
+    record { within = omega (arith, c.requires.within); long = c.requires.long ∙ sym points; few = c.requires.few; heads = refl; fresh = c.requires.fresh; below = λ q lt. refl }
 
 pub is_head-requires : goal.is_head-requires
 is_head-requires c =
@@ -37,9 +37,9 @@ returns-in_err-needed c =
     let within = c.loop-p.invariant.within in
     let points = seen_points_long b g in
     let next : c.loop-p.p ≡ suc n = omega arith in
-    let so_far = subst (λ (m : ℕ). Refreshes (seen b g) c.args.rows.now m c.loop-p.rows) next c.loop-p.invariant in
+    let so_far = subst (λ (m : ℕ). Refreshes (seen b g) c.args.low c.args.rows.now m c.loop-p.rows) next c.loop-p.invariant in
     let other = seen_head b g n _ (head_told g.points n c.is_head.result (omega arith) c.is_head.ensures ∙ c.if-not-is_head.true) in
-    rw (q.1, q.2) (refreshes_refused (seen b g) (seen_leads b g c.points-points.ensures.kept.leads) c.args.rows.now n c.loop-p.rows so_far c.args.low
+    rw (q.1, q.2) (refreshes_refused (seen b g) (seen_leads b g c.points-points.ensures.kept.leads) c.args.low c.args.rows.now n c.loop-p.rows so_far
     (needed_at (seen b g).edges (rows_at c.loop-p.rows) n) c.in_err-needed.field-0.0 c.loop-p.rows (omega arith) other c.in_err-needed.ensures.needed)
 
 pub loop-p-preserved-then-not-is_head : goal.loop-p-preserved-then-not-is_head
@@ -50,9 +50,9 @@ loop-p-preserved-then-not-is_head c =
     let within = c.loop-p.invariant.within in
     let points = seen_points_long b g in
     let next : c.loop-p.p ≡ suc n = omega arith in
-    let so_far = subst (λ (m : ℕ). Refreshes (seen b g) c.args.rows.now m c.loop-p.rows) next c.loop-p.invariant in
+    let so_far = subst (λ (m : ℕ). Refreshes (seen b g) c.args.low c.args.rows.now m c.loop-p.rows) next c.loop-p.invariant in
     let other = seen_head b g n _ (head_told g.points n c.is_head.result (omega arith) c.is_head.ensures ∙ c.if-not-is_head.true) in
-    refreshes_next (seen b g) (seen_leads b g c.points-points.ensures.kept.leads) c.args.rows.now n c.loop-p.rows so_far c.in_ok-needed.needed c.set.new.self other
+    refreshes_next (seen b g) (seen_leads b g c.points-points.ensures.kept.leads) c.args.low c.args.rows.now n c.loop-p.rows so_far c.in_ok-needed.needed c.set.new.self (omega arith) other
     c.in_ok-needed.ensures.needed.0 c.in_ok-needed.ensures.needed.1 c.in_ok-needed.ensures.few c.set.ensures
 
 pub loop-p-preserved : goal.loop-p-preserved
@@ -63,9 +63,9 @@ loop-p-preserved c =
     let within = c.loop-p.invariant.within in
     let points = seen_points_long b g in
     let next : c.loop-p.p ≡ suc n = omega arith in
-    let so_far = subst (λ (m : ℕ). Refreshes (seen b g) c.args.rows.now m c.loop-p.rows) next c.loop-p.invariant in
+    let so_far = subst (λ (m : ℕ). Refreshes (seen b g) c.args.low c.args.rows.now m c.loop-p.rows) next c.loop-p.invariant in
     let head = seen_head b g n _ (head_told g.points n c.is_head.result (omega arith) c.is_head.ensures ∙ c.if-not-is_head.false) in
-    refreshes_head (seen b g) (seen_leads b g c.points-points.ensures.kept.leads) c.args.rows.now n c.loop-p.rows so_far head
+    refreshes_head (seen b g) (seen_leads b g c.points-points.ensures.kept.leads) c.args.low c.args.rows.now n c.loop-p.rows so_far head
 
 pub returns : goal.returns
 returns c = refreshes_all (seen c.args.asserted c.args.g.now) c.args.rows.now c.loop-p.p c.args.low c.loop-p.rows (omega arith) c.loop-p.invariant

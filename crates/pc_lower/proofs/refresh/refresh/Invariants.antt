@@ -3,7 +3,7 @@ use Rattle.pc_lower.proofs.Refreshing.{Refreshes}
 use Rattle.pc_lower.proofs.refresh.refresh.Given as goal
 
 abbrev pub invariant-loop-p : goal.invariant-loop-p
-invariant-loop-p l = Refreshes (seen l.asserted l.g) l.initial.rows l.p l.rows
+invariant-loop-p l = Refreshes (seen l.asserted l.g) l.low l.initial.rows l.p l.rows
 
 abbrev pub decreases-loop-p : goal.decreases-loop-p
 decreases-loop-p l = l.p
