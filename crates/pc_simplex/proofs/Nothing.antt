@@ -5,7 +5,7 @@ use Rattle.std.proofs.Math.IntN.{*ℤ-zero}
 use Rattle.pc_rows.specs.Linear.{in_range, is_zero}
 use Rattle.pc_rows.proofs.Lists.{zero_is}
 use Rattle.pc_simplex.specs.Values.{Pivot}
-use Rattle.pc_simplex.specs.Pivoting.{entry, is_up, signed, cell, cell_fits}
+use Rattle.pc_simplex.specs.Pivoting.{entry, is_up, signed, cell, cell_fits, number_after, number_fits}
 
 nothing_rem : (d : ℤ) → int_rem (pos 0) d ≡ pos 0
 nothing_rem (pos n) = let e : 0 % n ≡ 0 = omega arith in ap pos e
@@ -30,7 +30,7 @@ all_five true true false d e ha hb hc hd he = cc
 all_five true true true false e ha hb hc hd he = cc
 all_five true true true true false ha hb hc hd he = cc
 
-pub nothing_changes : (p : Pivot) (b x y : ℤ) → is_zero x ≡ true → is_zero y ≡ true → (cell_fits p b x y ≡ true) × (x ≡ cell p b x y)
+nothing_changes : (p : Pivot) (b x y : ℤ) → is_zero x ≡ true → is_zero y ≡ true → (cell_fits p b x y ≡ true) × (x ≡ cell p b x y)
 nothing_changes p b x y ex ey =
     let x0 = zero_is x ex in
     let y0 = zero_is y ey in
@@ -44,3 +44,10 @@ nothing_changes p b x y ex ey =
           (ap (λ (z : ℤ). in_range (int_div z p.denominator)) both ∙ ap in_range (nothing_div p.denominator)),
       x0 ∙ sym (nothing_signed n p.denominator (is_up p) both),
     )
+
+signed_same : (up : Bool) (x : ℤ) → x ≡ pos 0 → x ≡ signed up x
+signed_same up x e = e ∙ sym (signed_nothing up) ∙ ap (signed up) (sym e)
+
+pub nothing_after : (p : Pivot) (b : ℤ) (here : Bool) (x y : ℤ) → is_zero x ≡ true → is_zero y ≡ true → (number_fits p b here x y ≡ true) × (x ≡ number_after p b here x y)
+nothing_after p b true x y ex ey = (refl, signed_same (is_up p) x (zero_is x ex))
+nothing_after p b false x y ex ey = nothing_changes p b x y ex ey

@@ -126,6 +126,10 @@ impl Pivot {
     fn number_after(&self, factor: Number, here: bool, x: Number, y: Number) -> Result<Number, Past>
         ensures { OkIff result (number_fits self.now factor here x y ≡ true) (number_after self.now factor here x y) }
     {
+        // most numbers of a table are 0, and then nothing changes
+        if x.is_zero() && y.is_zero() {
+            return Ok(x);
+        }
         if here {
             Ok(signed(self.up, x))
         } else {
@@ -136,10 +140,6 @@ impl Pivot {
     fn cell(&self, factor: Number, x: Number, y: Number) -> Result<Number, Past>
         ensures { OkIff result (cell_fits self.now factor x y ≡ true) (cell self.now factor x y) }
     {
-        // most numbers of a table are 0, and then nothing changes
-        if x.is_zero() && y.is_zero() {
-            return Ok(x);
-        }
         let difference = difference(self.entry, x, factor, y)?;
         Ok(signed(self.up, self.divisor.divide(difference)?))
     }
