@@ -7,7 +7,7 @@ ghost use Rattle.pc_box.specs.Forms.{kept, kept_product, needed, plus_bound, plu
 
 use crate::interval::Interval;
 use crate::intervals::{Intervals, interval_at};
-use pc_rows::{Number, Past, Row};
+use pc_rows::{Number, Row};
 
 /// A side of an interval.
 #[derive(Clone, Copy, Debug, PartialEq, Eq)]
@@ -75,10 +75,7 @@ fn needed(side: Side, c: i128, interval: Interval) -> Option<Number>
 fn kept_product(sum: Number, c: Number, n: Number) -> Option<Number>
     ensures { result ≡ kept_product sum c n }
 {
-    match sum.plus_product(c, n) {
-        Ok(sum) => Some(sum),
-        Err(Past) => None,
-    }
+    sum.plus_product(c, n).ok()
 }
 
 /// The sum with a choice's end.
@@ -97,8 +94,5 @@ fn plus_choice(sum: Option<Number>, choice: Option<i128>) -> Option<Number>
 fn kept_sum(a: Number, b: Number) -> Option<Number>
     ensures { result ≡ kept (a +ℤ b) }
 {
-    match a.plus(b) {
-        Ok(sum) => Some(sum),
-        Err(Past) => None,
-    }
+    a.plus(b).ok()
 }
