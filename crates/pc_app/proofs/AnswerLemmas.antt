@@ -18,9 +18,8 @@ use Rattle.pc_app.specs.Words.{Order, Infer, Certify, Replay, Run, Show, IsOrder
 use Rattle.pc_app.specs.Files.{Kind, MayHold, MayMean, OnFile}
 use Rattle.pc_app.specs.Files.OnFile.{IsRefused, IsRead}
 use Rattle.pc_app.specs.Kinds.{source_kind, script_kind, certificate_kind}
-use Rattle.pc_app.specs.Answers.{Answers, AnalysisAnswers, ReplayAnswers, RunAnswers, OrderAnswers}
+use Rattle.pc_app.specs.Answers.{Answers, ReplayAnswers, RunAnswers, OrderAnswers}
 use Rattle.pc_app.specs.Answers.Answers.{Unknown, Known}
-use Rattle.pc_app.specs.Answers.AnalysisAnswers.{IsNotBuilt, IsAnalysed as IsBuilt}
 use Rattle.pc_app.specs.Causes.{IsRuling, IsVerdict}
 use Rattle.pc_app.specs.Promises.{OfBytes, IsAnswered}
 
@@ -66,10 +65,6 @@ module _ (status : ℕ) (text : Bytes) where
   file_usual kind A held (inr e) f (IsRefused (inr faulty)) = usual status (inr (inr (inr (inl (faulty.status_is ∙ e)))))
   file_usual kind A held fault f (IsRead m is a) = f m a
 
-  analysis_usual : (A : Program → ℕ → Bytes → Type 0) → ((p : Program) → A p status text → Usual status) → (p : Program) → AnalysisAnswers A p status text → Usual status
-  analysis_usual A f p (IsNotBuilt place loop s t) = usual status (inr (inr (inl s)))
-  analysis_usual A f p (IsBuilt none a) = f p a
-
   ruling_usual : IsRuling status → Usual status
   ruling_usual (inl s) = usual status (inl s)
   ruling_usual (inr s) = usual status (inr (inl s))
@@ -83,8 +78,8 @@ module _ (status : ℕ) (text : Bytes) where
   source_usual A held f a = file_usual source_kind A held (inl refl) f a
 
   order_usual : (held : Bytes → Holding) (order : Order) → OrderAnswers held order status text → Usual status
-  order_usual held (Infer source) a = source_usual _ (held source) (analysis_usual _ (λ p b. usual status (inl b.status_is))) a
-  order_usual held (Certify source) a = source_usual _ (held source) (analysis_usual _ (λ p b. usual status (inl b.status_is))) a
+  order_usual held (Infer source) a = source_usual _ (held source) (λ p b. usual status (inl b.status_is)) a
+  order_usual held (Certify source) a = source_usual _ (held source) (λ p b. usual status (inl b.status_is)) a
   order_usual held (Replay source certificate) a =
       source_usual _ (held source) (λ p b. file_usual certificate_kind _ (held certificate) (inr refl) (λ c r. ruling_usual (replay_ends p c status text r)) b) a
   order_usual held (Run source script) a =
@@ -105,11 +100,6 @@ module _ (kind : Kind) (A : kind.Meaning → ℕ → Bytes → Type 0) (held : H
   file_read not_long not_faulty (IsRefused (inl long)) = absurd (not_long long.status_is)
   file_read not_long not_faulty (IsRefused (inr faulty)) = absurd (not_faulty faulty.status_is)
   file_read not_long not_faulty (IsRead m is a) = (m, meaning_of m is, a)
-
--- a program that is not refused is analysed
-pub analysed : (A : Program → ℕ → Bytes → Type 0) (p : Program) (status : ℕ) (text : Bytes) → status ≢ REFUSED → AnalysisAnswers A p status text → A p status text
-analysed A p status text not_refused (IsNotBuilt place loop s t) = absurd (not_refused s)
-analysed A p status text not_refused (IsBuilt none a) = a
 
 -- a file that is not there is not answered
 pub of_nothing : (kind : Kind) (A : kind.Meaning → ℕ → Bytes → Type 0) (held : Holding) (status : ℕ) (text : Bytes) → held ≡ Nothing → OnFile kind A held status text → ⊥

@@ -10,10 +10,10 @@ use Rattle.pc_app.specs.Kinds.{source_kind}
 use Rattle.pc_app.specs.Answers.{OrderAnswers}
 use Rattle.pc_app.specs.Silences.{IsLost, IsLostBehind, OrderIsLost, LacksFile}
 use Rattle.pc_app.specs.Causes.{IsRuling, IsVerdict, OrderIsTooLong, OrderIsRefused, OrderIsMalformed, OrderIsMeant, IsOutcome}
-use Rattle.pc_app.specs.Promises.{OfBytes, PrintedSuffices, PrintedIsExact, PrintedCertificate, PrintedRuling, PrintedAccepted, PrintedVerdict, PrintedProgram, AreTold, AreThere, IsAnswered, IsOnlyStatus, HasAnswered, IsCutOff, Ends}
+use Rattle.pc_app.specs.Promises.{OfBytes, PrintedSuffices, PrintedIsExact, PrintedCovers, PrintedCertificate, PrintedRuling, PrintedAccepted, PrintedVerdict, PrintedProgram, AreTold, AreThere, IsAnswered, IsOnlyStatus, HasAnswered, IsCutOff, Ends}
 use Rattle.pc_app.specs.Promises.Ends.{Answered, Unread, CutOff, Starved}
 use Rattle.pc_app.proofs.AnswerLemmas.{same_order, order_answers, answers_is_answered, answers_usage, of_nothing, of_bytes}
-use Rattle.pc_app.proofs.PromiseLemmas.{infer_is_exact, certify_is_right, replay_is_ruling, run_is_verdict, show_is_text, of_source_accepts, suffices_of}
+use Rattle.pc_app.proofs.PromiseLemmas.{infer_is_exact, infer_covers, certify_is_right, replay_is_ruling, run_is_verdict, show_is_text, of_source_accepts, suffices_of}
 use Rattle.pc_app.proofs.OnlyLemmas.{order_once, words_once}
 use Rattle.pc_app.proofs.StatusLemmas.{too_long_answer, refused_answer, malformed_answer, too_long_cause, refused_cause, malformed_cause, outcome, are_there}
 
@@ -39,6 +39,11 @@ module _ (words : List Bytes) (held : Bytes → Holding) (old new : Option Bytes
   exact ends name infer done =
       let a = order_of ends (omega arith, omega arith, omega arith) (Infer name) infer in
       promised _ _ name a.0 a.1 (λ bytes e. infer_is_exact (held name) bytes status a.0 old new e a.2 done a.1)
+
+  pub covering : Ended → (name : Bytes) → IsInfer words name → status ≡ DONE → OfBytes (λ bytes. PrintedCovers bytes old new) (held name)
+  covering ends name infer done =
+      let a = order_of ends (omega arith, omega arith, omega arith) (Infer name) infer in
+      promised _ _ name a.0 a.1 (λ bytes e. infer_covers (held name) bytes status a.0 old new e a.2 done a.1)
 
   pub sound : Ended → (name : Bytes) → IsInfer words name → status ≡ DONE → OfBytes (λ bytes. PrintedSuffices bytes old new) (held name)
   sound ends name infer done = suffices_of old new (held name) (exact ends name infer done)

@@ -5,18 +5,17 @@ use Rattle.std.specs.List.{AllByRecursion}
 use Rattle.std.proofs.lemmas.Int.{ints}
 use Rattle.std.proofs.lemmas.Bool.{leb-true}
 use Rattle.std.proofs.lemmas.List.Elements.{All-from_recursion}
-use Rattle.pc_text.specs.declared.place.Place.{Place}
 use Rattle.pc_rows.specs.Linear.{Linear, State, value, Meets, MeetsAll, MeetsSome, IsOver}
 use Rattle.pc_rows.specs.declared.row.TheConstants.{VARIABLES}
 use Rattle.pc_rows.specs.declared.rows.TheConstants.{ROWS}
 use Rattle.pc_rows.specs.declared.system.TheConstants.{PREMISES}
 use Rattle.pc_language.specs.declared.limits.TheConstants.{EDGES}
 use Rattle.pc_program.specs.declared.program.Program.{Program}
-use Rattle.pc_program.specs.Loops.{first, whiles_of}
 use Rattle.pc_program.specs.Sane.{is_sane, sane_stmts, edges_of}
 use Rattle.pc_program.proofs.Results.{and_is}
 use Rattle.pc_graph.specs.Lowering.{graph}
 use Rattle.pc_graph.proofs.LoopFree.{loop_free_graphs}
+use Rattle.pc_graph.proofs.StraightLoops.{straight_is_loop_free}
 use Rattle.pc_lower.specs.Annotation.{NoHeads}
 use Rattle.pc_certificate.specs.declared.certificate.Annotated.{Annotated}
 use Rattle.pc_certificate.specs.declared.certificate.TheConstants.{POINTS}
@@ -27,20 +26,16 @@ use Rattle.pc_cert.specs.Lengths.{text_bytes}
 use Rattle.pc_cert.proofs.ShortTexts.{texts_are_short}
 use Rattle.pc_cert.proofs.WholeReading.{each_of}
 use Rattle.pc_flow.specs.Annotation.{rows_at}
+use Rattle.pc_flow.specs.Flow.{Flow}
 use Rattle.pc_flow.proofs.Lists.{each_more}
 use Rattle.pc_replay.specs.Accepts.{Accepts, AlternativeProved}
 use Rattle.pc_replay.specs.Shape.{IsShaped}
 use Rattle.pc_replay.proofs.Lean.{accepted_is_lean}
 use Rattle.pc_app.proofs.Programs.{accepted_programs_are_safe}
-use Rattle.pc_certify.specs.Inferring.{IsExact, AreEntryRows}
+use Rattle.pc_certify.specs.Inferring.{IsExact, IsAlternative}
 use Rattle.pc_app.proofs.Programs.{infer_is_exact}
-use Rattle.pc_app.specs.declared.answer.Answer.{Answer}
-use Rattle.pc_app.specs.declared.status.TheConstants.{REFUSED}
-use Rattle.pc_app.specs.Answers.{AnalysisAnswers}
-use Rattle.pc_app.specs.Answers.AnalysisAnswers.{IsNotBuilt}
-use Rattle.pc_app.specs.Texts.{refused, not_built}
 use Rattle.pc_app.specs.declared.limits.TheConstants.{ALTERNATIVES, CERTIFICATE_BYTES}
-use Rattle.pc_app.specs.Inferred.{IsCondition, HasViolation, IsNeeded, IsTameAndStraight, Inferred}
+use Rattle.pc_app.specs.Inferred.{IsCondition, HasViolation, IsNeeded, IsTameAndStraight, CoversGuesses, Inferred}
 
 -- ---- what a program keeps
 
@@ -67,6 +62,13 @@ entry_is a = by a.rows
 wider : (m n : ℕ) → m ≤ n → (r : Linear) → IsOver m r → IsOver n r
 wider m n le r over v l = over v (omega arith)
 
+-- rows of the entry, over the parameters and not too many
+abbrev IsEntryOf : Flow → List Linear → Type 0
+IsEntryOf g rows = (length rows ≤ ROWS) × AllByRecursion (IsOver g.params) rows
+
+is_entry : (g : Flow) (a : Annotated) → IsAlternative g a → IsEntryOf g (rows_at a.rows 0)
+is_entry g a is = let entry = is.entry in (entry.most, entry.over)
+
 -- each alternative has rows for the entry, over the names
 pub says : (p : Program) (c : Certificate) → Accepts (graph p) c → AllByRecursion (SaysOf (length p.names.names)) c.alternatives
 says p c accepts =
@@ -83,14 +85,21 @@ mapped_length : {A B : Type 0} (f : A → B) (xs : List A) → length (map f xs)
 mapped_length f [] = refl
 mapped_length f (x ∷ xs) = ap suc (mapped_length f xs)
 
-small : (p : Program) (c : Certificate) → length c.alternatives ≤ 1 → AllByRecursion (AreEntryRows (graph p)) (condition_of c) → IsCondition p (condition_of c)
-small p c one rows =
+-- what is told of an alternative's rows at the entry is told of the condition
+entries : (g : Flow) (all : List Annotated) → AllByRecursion (IsAlternative g) all → AllByRecursion (IsEntryOf g) (map (λ (a : Annotated). entry_rows a.rows) all)
+entries g all h =
+    each_mapped (IsEntryOf g) (λ (a : Annotated). entry_rows a.rows) all
+    (each_more (IsAlternative g) (λ (a : Annotated). IsEntryOf g (entry_rows a.rows)) (λ a is. subst (IsEntryOf g) (entry_is a) (is_entry g a is)) all h)
+
+small : (p : Program) (c : Certificate) → length c.alternatives ≤ ALTERNATIVES → AllByRecursion (IsAlternative (graph p)) c.alternatives → IsCondition p (condition_of c)
+small p c few alternatives =
     let long = mapped_length (λ (a : Annotated). entry_rows a.rows) c.alternatives in
+    let rows = entries (graph p) c.alternatives alternatives in
     record {
       alternatives = omega arith;
-      rows = All-from_recursion (λ rows. length rows ≤ ROWS) (condition_of c) (each_more (AreEntryRows (graph p)) (λ rows. length rows ≤ ROWS) (λ rows h. h.most) (condition_of c) rows);
+      rows = All-from_recursion (λ rows. length rows ≤ ROWS) (condition_of c) (each_more (IsEntryOf (graph p)) (λ rows. length rows ≤ ROWS) (λ rows h. h.0) (condition_of c) rows);
       parameters = All-from_recursion (All (IsOver p.names.params)) (condition_of c)
-          (each_more (AreEntryRows (graph p)) (All (IsOver p.names.params)) (λ rows h. All-from_recursion (IsOver p.names.params) rows h.over) (condition_of c) rows);
+          (each_more (IsEntryOf (graph p)) (All (IsOver p.names.params)) (λ rows h. All-from_recursion (IsOver p.names.params) rows h.1) (condition_of c) rows);
     }
 
 -- ---- whether a state meets a condition
@@ -127,22 +136,15 @@ needed p c accepts exact is s entry = by (some_or_not s (condition_of c))
     by (inl h) = inl h
     by (inr h) = inr ((infer_is_exact p c is.straight is.tame accepts exact s entry).violated h)
 
-pub inferred : (p : Program) (c : Certificate) → length c.alternatives ≤ 1 → Accepts (graph p) c → AllByRecursion (AreEntryRows (graph p)) (condition_of c) → IsExact (graph p) c → Inferred p (condition_of c)
-inferred p c one accepts rows exact =
+pub inferred : (p : Program) (c : Certificate) → length c.alternatives ≤ ALTERNATIVES → Accepts (graph p) c → AllByRecursion (IsAlternative (graph p)) c.alternatives →
+    (NoHeads (graph p).points → IsExact (graph p) c) → CoversGuesses p (condition_of c) → Inferred p (condition_of c)
+inferred p c few accepts alternatives exact covers =
     record {
-      small = small p c one rows;
+      small = small p c few alternatives;
       sound = accepted_programs_are_safe p c accepts;
-      exact = needed p c accepts exact;
+      exact = λ is. needed p c accepts (exact (loop_free_graphs p (straight_is_loop_free p is.straight))) is;
+      covers = covers;
     }
-
--- ---- graphs without loops
-
-none_is : (places : List Place) → first places ≡ None → places ≡ []
-none_is [] e = refl
-none_is (p ∷ places) e = cc
-
-pub no_heads : (p : Program) → first (whiles_of p.body) ≡ None → NoHeads (graph p).points
-no_heads p e = loop_free_graphs p (none_is (whiles_of p.body) e)
 
 -- ---- the length of the text
 
@@ -156,10 +158,3 @@ short_text p c text few accepts is =
     let e = ap (λ (z : Bytes). length z) is.text in
     let most = fits (length c.alternatives) few in
     omega arith
-
--- ---- programs that are not analysed
-
-pub not_built_yet : {E : Type 0} (A : Program → ℕ → Bytes → Type 0) (p : Program) (place : Place) (r : Result Answer E) → first (whiles_of p.body) ≡ Some place →
-    IfOk r (λ a. (a.status ≡ REFUSED) × (a.text ≡ refused (not_built place))) → IfOk r (λ a. AnalysisAnswers A p a.status a.text)
-not_built_yet A p place (Ok a) loop h = IsNotBuilt place loop h.0 h.1
-not_built_yet A p place (Err e) loop h = tt

@@ -5,7 +5,6 @@ use Rattle.pc_text.specs.Bytes.{Bytes}
 use Rattle.pc_program.specs.declared.program.Program.{Program}
 use Rattle.pc_syntax.specs.Context.{Content, content_of}
 use Rattle.pc_program.specs.Machine.{started}
-use Rattle.pc_program.specs.Loops.{first, whiles_of}
 use Rattle.pc_certificate.specs.Certificate.{Certificate}
 use Rattle.pc_flow.specs.Arc.{arc}
 use Rattle.pc_flow.specs.declared.what.What.TheVariants.{Enter}
@@ -21,9 +20,8 @@ use Rattle.pc_app.specs.Verdicts.{verdict_status}
 use Rattle.pc_app.specs.Files.{Kind, MayHold, HasBytes, OnFile}
 use Rattle.pc_app.specs.Files.OnFile.{IsRefused, IsRead}
 use Rattle.pc_app.specs.Kinds.{source_kind, script_kind, certificate_kind}
-use Rattle.pc_app.specs.Answers.{Answers, AnalysisAnswers, ReplayAnswers, RunAnswers, OnReplay, OnRun, OrderAnswers}
+use Rattle.pc_app.specs.Answers.{Answers, ReplayAnswers, RunAnswers, OnReplay, OnRun, OrderAnswers}
 use Rattle.pc_app.specs.Answers.Answers.{Unknown, Known}
-use Rattle.pc_app.specs.Answers.AnalysisAnswers.{IsNotBuilt, IsAnalysed as IsBuilt}
 use Rattle.pc_app.specs.Promises.{AreTold}
 use Rattle.pc_app.proofs.AnswerLemmas.{order_answers}
 use Rattle.pc_app.proofs.KindLemmas.{IsDecided, AreAlike, source_decided, script_decided, certificate_decided}
@@ -71,15 +69,6 @@ module _ (s : ℕ) (t : Bytes) (s' : ℕ) (t' : Bytes) where
       let same = same_bytes held b.bytes a.bytes told b.has.holds a.has.holds in
       one m n (decided.alike a.bytes m n a.means (subst (λ (z : Bytes). kind.Means z n) same b.means)) x y
 
-  analysis_once : (A : Program → ℕ → Bytes → Type 0) → ((p : Program) (status : ℕ) (text : Bytes) → A p status text → status ≡ DONE) → (p q : Program) → content_of p ≡ content_of q →
-      AnalysisAnswers A p s t → AnalysisAnswers A q s' t' → s ≡ s'
-  analysis_once A done p q same (IsNotBuilt place loop e u) (IsNotBuilt place' loop' e' u') = e ∙ sym e'
-  analysis_once A done p q same (IsNotBuilt place loop e u) (IsBuilt free y) =
-      let one = ap (λ (c : Content). first (whiles_of c.body)) same in absurd (cc)
-  analysis_once A done p q same (IsBuilt free x) (IsNotBuilt place loop e u) =
-      let one = ap (λ (c : Content). first (whiles_of c.body)) same in absurd (cc)
-  analysis_once A done p q same (IsBuilt free x) (IsBuilt free' y) = done p s t x ∙ sym (done q s' t' y)
-
   -- programs that are equal but for their proofs have one graph
   same_graph : (p q : Program) → content_of p ≡ content_of q → graph p ≡ graph q
   same_graph p q same = ap graph_of same
@@ -112,8 +101,8 @@ module _ (s : ℕ) (t : Bytes) (s' : ℕ) (t' : Bytes) where
   source_once A B held told one x y = file_once source_kind AreAlike source_decided A B held told one x y
 
   pub order_once : (held : Bytes → Holding) (order : Order) → AreTold held (files_of order) → OrderAnswers held order s t → OrderAnswers held order s' t' → s ≡ s'
-  order_once held (Infer source) told x y = source_once _ _ (held source) told.0 (analysis_once _ (λ p status text a. a.status_is)) x y
-  order_once held (Certify source) told x y = source_once _ _ (held source) told.0 (analysis_once _ (λ p status text a. a.status_is)) x y
+  order_once held (Infer source) told x y = source_once _ _ (held source) told.0 (λ p q same a b. a.status_is ∙ sym b.status_is) x y
+  order_once held (Certify source) told x y = source_once _ _ (held source) told.0 (λ p q same a b. a.status_is ∙ sym b.status_is) x y
   order_once held (Replay source certificate) told x y = source_once _ _ (held source) told.0 (replay_once (held certificate) told.1.0) x y
   order_once held (Run source script) told x y = source_once _ _ (held source) told.0 (run_once (held script) told.1.0) x y
   order_once held (Show source) told x y = source_once _ _ (held source) told.0 (λ p q same a b. a.status_is ∙ sym b.status_is) x y

@@ -13,30 +13,38 @@ use Rattle.pc_app.proofs.Programs.{accepted_programs_are_safe}
 use Rattle.pc_app.specs.declared.status.TheConstants.{DONE}
 use Rattle.pc_app.specs.Rulings.{ruling_status, ruling_text}
 use Rattle.pc_app.specs.Files.{OnFile}
+use Rattle.pc_app.specs.Inferred.{Inferred}
 use Rattle.pc_app.specs.Kinds.{source_kind, script_kind, certificate_kind}
-use Rattle.pc_app.specs.Answers.{AnalysisAnswers, InferAnswers, CertifyAnswers, ReplayAnswers, RunAnswers, ShowAnswers, OnReplay, OnRun}
+use Rattle.pc_app.specs.Answers.{InferAnswers, CertifyAnswers, ReplayAnswers, RunAnswers, ShowAnswers, OnReplay, OnRun}
 use Rattle.pc_app.specs.Causes.{IsRuling, IsVerdict}
-use Rattle.pc_app.specs.Promises.{OfBytes, PrintedSuffices, PrintedIsExact, PrintedCertificate, PrintedRuling, PrintedAccepted, PrintedVerdict, PrintedProgram}
-use Rattle.pc_app.proofs.AnswerLemmas.{file_read, analysed, of_bytes, of_nothing}
+use Rattle.pc_app.specs.Promises.{OfBytes, PrintedSuffices, PrintedIsExact, PrintedCovers, PrintedCertificate, PrintedRuling, PrintedAccepted, PrintedVerdict, PrintedProgram}
+use Rattle.pc_app.proofs.AnswerLemmas.{file_read, of_bytes, of_nothing}
 
 module _ (held : Holding) (bytes : Bytes) (status : ℕ) (text : Bytes) (old new : Option Bytes) (e : held ≡ Held bytes) (written : Appended old new text) where
   -- what was written, where it is told what the text is
   is_written : (other : Bytes) → text ≡ other → Appended old new other
   is_written other same = subst (λ (z : Bytes). Appended old new z) same written
 
-  pub infer_is_exact : status ≡ DONE → OnFile source_kind (AnalysisAnswers InferAnswers) held status text → PrintedIsExact bytes old new
-  infer_is_exact done file =
-      let r = file_read source_kind (AnalysisAnswers InferAnswers) held bytes status text e (λ l. omega arith) (λ l. omega arith) file in
-      let a = analysed InferAnswers r.0 status text (λ l. omega arith) r.2 in
-      record {
-        suffices = record { program = r.0; spelled = r.1; condition = a.condition; small = a.inferred.small; printed = is_written _ a.text_is; safe = a.inferred.sound };
-        needed = a.inferred.exact;
-      }
+  -- the condition that was written, and what was inferred of it
+  abbrev IsOfInferred : Type 0
+  IsOfInferred = (printed : PrintedSuffices bytes old new) × Inferred printed.program printed.condition
 
-  pub certify_is_right : status ≡ DONE → OnFile source_kind (AnalysisAnswers CertifyAnswers) held status text → PrintedCertificate bytes old new
+  infer_suffices : status ≡ DONE → OnFile source_kind InferAnswers held status text → IsOfInferred
+  infer_suffices done file =
+      let r = file_read source_kind InferAnswers held bytes status text e (λ l. omega arith) (λ l. omega arith) file in
+      let a = r.2 in
+      (record { program = r.0; spelled = r.1; condition = a.condition; small = a.inferred.small; printed = is_written _ a.text_is; safe = a.inferred.sound }, a.inferred)
+
+  pub infer_is_exact : status ≡ DONE → OnFile source_kind InferAnswers held status text → PrintedIsExact bytes old new
+  infer_is_exact done file = let x = infer_suffices done file in record { suffices = x.0; needed = x.1.exact }
+
+  pub infer_covers : status ≡ DONE → OnFile source_kind InferAnswers held status text → PrintedCovers bytes old new
+  infer_covers done file = let x = infer_suffices done file in record { suffices = x.0; covers = x.1.covers }
+
+  pub certify_is_right : status ≡ DONE → OnFile source_kind CertifyAnswers held status text → PrintedCertificate bytes old new
   certify_is_right done file =
-      let r = file_read source_kind (AnalysisAnswers CertifyAnswers) held bytes status text e (λ l. omega arith) (λ l. omega arith) file in
-      let a = analysed CertifyAnswers r.0 status text (λ l. omega arith) r.2 in
+      let r = file_read source_kind CertifyAnswers held bytes status text e (λ l. omega arith) (λ l. omega arith) file in
+      let a = r.2 in
       record {
         program = r.0;
         spelled = r.1;
@@ -49,6 +57,7 @@ module _ (held : Holding) (bytes : Bytes) (status : ℕ) (text : Bytes) (old new
         small = a.inferred.small;
         safe = a.inferred.sound;
         needed = a.inferred.exact;
+        covers = a.inferred.covers;
       }
 
   pub show_is_text : status ≡ DONE → OnFile source_kind ShowAnswers held status text → PrintedProgram bytes old new

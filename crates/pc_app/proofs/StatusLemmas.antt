@@ -8,26 +8,20 @@ use Rattle.pc_app.specs.declared.status.TheConstants.{DONE, REFUSED, MALFORMED, 
 use Rattle.pc_app.specs.Files.{MayMean, OnFile}
 use Rattle.pc_app.specs.Files.OnFile.{IsRead}
 use Rattle.pc_app.specs.Kinds.{source_kind, script_kind, certificate_kind}
-use Rattle.pc_app.specs.Answers.{AnalysisAnswers, InferAnswers, CertifyAnswers, ReplayAnswers, RunAnswers, ShowAnswers, OnReplay, OnRun, OrderAnswers}
+use Rattle.pc_app.specs.Answers.{InferAnswers, CertifyAnswers, ReplayAnswers, RunAnswers, ShowAnswers, OnReplay, OnRun, OrderAnswers}
 use Rattle.pc_app.specs.Causes.{IsMeaningless, Behind, OrderIsTooLong, OrderIsRefused, OrderIsMalformed, OrderIsMeant, IsOutcome, IsRuling, IsVerdict}
 use Rattle.pc_app.specs.Promises.{AreTold, AreThere}
 use Rattle.pc_app.specs.Words.{Order, Infer, Certify, Replay, Run, Show, files_of}
 use Rattle.pc_app.proofs.AnswerLemmas.{replay_ends, run_ends}
-use Rattle.pc_app.proofs.CauseLemmas.{may_be_there, is_there, over_answer, over_cause, file_cases, meaningless_answer, meaningless_cause, meant_read, may_mean, not_analysed_answer, not_analysed_cause, analysis_status, analysed_done}
+use Rattle.pc_app.proofs.CauseLemmas.{may_be_there, is_there, over_answer, over_cause, file_cases, meaningless_answer, meaningless_cause, meant_read, may_mean}
 use Rattle.pc_app.proofs.KindLemmas.{AreAlike, source_decided, script_decided, certificate_decided}
-
-infer_done : (p : Program) (status : ℕ) (text : Bytes) → InferAnswers p status text → status ≡ DONE
-infer_done p status text a = a.status_is
-
-certify_done : (p : Program) (status : ℕ) (text : Bytes) → CertifyAnswers p status text → status ≡ DONE
-certify_done p status text a = a.status_is
 
 -- ---- what is held gives the answer
 
 module _ (held : Bytes → Holding) where
   pub too_long_answer : (order : Order) → OrderIsTooLong held order → (text : Bytes) × OrderAnswers held order TOO_LONG text
-  too_long_answer (Infer source) h = (source_kind.long, over_answer source_kind (AnalysisAnswers InferAnswers) (held source) h)
-  too_long_answer (Certify source) h = (source_kind.long, over_answer source_kind (AnalysisAnswers CertifyAnswers) (held source) h)
+  too_long_answer (Infer source) h = (source_kind.long, over_answer source_kind InferAnswers (held source) h)
+  too_long_answer (Certify source) h = (source_kind.long, over_answer source_kind CertifyAnswers (held source) h)
   too_long_answer (Replay source certificate) (inl h) = (source_kind.long, over_answer source_kind (OnReplay (held certificate)) (held source) h)
   too_long_answer (Replay source certificate) (inr b) =
       (certificate_kind.long, IsRead b.program b.spelled (over_answer certificate_kind (ReplayAnswers b.program) (held certificate) b.cause))
@@ -38,8 +32,8 @@ module _ (held : Bytes → Holding) where
   too_long_answer (Show source) h = (source_kind.long, over_answer source_kind ShowAnswers (held source) h)
 
   pub refused_answer : (order : Order) → OrderIsRefused held order → (text : Bytes) × OrderAnswers held order REFUSED text
-  refused_answer (Infer source) h = not_analysed_answer InferAnswers (held source) h
-  refused_answer (Certify source) h = not_analysed_answer CertifyAnswers (held source) h
+  refused_answer (Infer source) h = meaningless_answer source_kind InferAnswers (held source) AreAlike source_decided h
+  refused_answer (Certify source) h = meaningless_answer source_kind CertifyAnswers (held source) AreAlike source_decided h
   refused_answer (Replay source certificate) h = meaningless_answer source_kind (OnReplay (held certificate)) (held source) AreAlike source_decided h
   refused_answer (Run source script) h = meaningless_answer source_kind (OnRun (held script)) (held source) AreAlike source_decided h
   refused_answer (Show source) h = meaningless_answer source_kind ShowAnswers (held source) AreAlike source_decided h
@@ -92,11 +86,11 @@ module _ (status : ℕ) (text : Bytes) where
   module _ (held : Bytes → Holding) where
     pub too_long_cause : (order : Order) → AreTold held (files_of order) → status ≡ TOO_LONG → OrderAnswers held order status text → OrderIsTooLong held order
     too_long_cause (Infer source) told e a =
-        only_left (λ x. let s = analysis_status InferAnswers (held source) infer_done x.0 status text x.2 in omega arith)
-        (over_cause source_kind (AnalysisAnswers InferAnswers) (held source) status text told.0 (λ l. omega arith) e a)
+        only_left (λ x. let s = x.2.status_is in omega arith)
+        (over_cause source_kind InferAnswers (held source) status text told.0 (λ l. omega arith) e a)
     too_long_cause (Certify source) told e a =
-        only_left (λ x. let s = analysis_status CertifyAnswers (held source) certify_done x.0 status text x.2 in omega arith)
-        (over_cause source_kind (AnalysisAnswers CertifyAnswers) (held source) status text told.0 (λ l. omega arith) e a)
+        only_left (λ x. let s = x.2.status_is in omega arith)
+        (over_cause source_kind CertifyAnswers (held source) status text told.0 (λ l. omega arith) e a)
     too_long_cause (Replay source certificate) told e a =
         elim (over_cause source_kind (OnReplay (held certificate)) (held source) status text told.0 (λ l. omega arith) e a) [
           | inl h ↦ inl h
@@ -123,8 +117,12 @@ module _ (status : ℕ) (text : Bytes) where
         only_left (λ x. let s = x.2.status_is in omega arith) (over_cause source_kind ShowAnswers (held source) status text told.0 (λ l. omega arith) e a)
 
     pub refused_cause : (order : Order) → AreTold held (files_of order) → status ≡ REFUSED → OrderAnswers held order status text → OrderIsRefused held order
-    refused_cause (Infer source) told e a = not_analysed_cause InferAnswers (held source) infer_done status text told.0 e a
-    refused_cause (Certify source) told e a = not_analysed_cause CertifyAnswers (held source) certify_done status text told.0 e a
+    refused_cause (Infer source) told e a =
+        only_left (λ x. let s = x.2.status_is in omega arith)
+        (meaningless_cause source_kind InferAnswers (held source) AreAlike source_decided status text told.0 (λ l. omega arith) e a)
+    refused_cause (Certify source) told e a =
+        only_left (λ x. let s = x.2.status_is in omega arith)
+        (meaningless_cause source_kind CertifyAnswers (held source) AreAlike source_decided status text told.0 (λ l. omega arith) e a)
     refused_cause (Replay source certificate) told e a =
         only_left (λ x. replay_is_of_source x.0 (held certificate) x.2 e)
         (meaningless_cause source_kind (OnReplay (held certificate)) (held source) AreAlike source_decided status text told.0 (λ l. omega arith) e a)
@@ -137,9 +135,9 @@ module _ (status : ℕ) (text : Bytes) where
 
     pub malformed_cause : (order : Order) → AreTold held (files_of order) → status ≡ MALFORMED → OrderAnswers held order status text → OrderIsMalformed held order
     malformed_cause (Infer source) told e a =
-        (behind (AnalysisAnswers InferAnswers) (held source) (λ p. ⊥) e (λ p b. let s = analysis_status InferAnswers (held source) infer_done p status text b in omega arith) a).cause
+        (behind InferAnswers (held source) (λ p. ⊥) e (λ p b. let s = b.status_is in omega arith) a).cause
     malformed_cause (Certify source) told e a =
-        (behind (AnalysisAnswers CertifyAnswers) (held source) (λ p. ⊥) e (λ p b. let s = analysis_status CertifyAnswers (held source) certify_done p status text b in omega arith) a).cause
+        (behind CertifyAnswers (held source) (λ p. ⊥) e (λ p b. let s = b.status_is in omega arith) a).cause
     malformed_cause (Replay source certificate) told e a =
         behind (OnReplay (held certificate)) (held source) (λ p. IsMeaningless certificate_kind (held certificate)) e
         (λ p b.
@@ -157,8 +155,14 @@ module _ (status : ℕ) (text : Bytes) where
 
     -- where each file is what it is to be, the order comes to its end
     pub outcome : (order : Order) → AreTold held (files_of order) → OrderIsMeant held order → OrderAnswers held order status text → IsOutcome order status
-    outcome (Infer source) told h a = analysed_done InferAnswers (held source) infer_done status text told.0 h a
-    outcome (Certify source) told h a = analysed_done CertifyAnswers (held source) certify_done status text told.0 h a
+    outcome (Infer source) told h a =
+        let x = may_mean source_kind (held source) h in
+        let y = meant_read source_kind InferAnswers (held source) AreAlike source_decided status text told.0 x.0 x.1 a in
+        y.2.status_is
+    outcome (Certify source) told h a =
+        let x = may_mean source_kind (held source) h in
+        let y = meant_read source_kind CertifyAnswers (held source) AreAlike source_decided status text told.0 x.0 x.1 a in
+        y.2.status_is
     outcome (Replay source certificate) told h a =
         let y = meant_read source_kind (OnReplay (held certificate)) (held source) AreAlike source_decided status text told.0 h.program h.spelled a in
         let x = may_mean certificate_kind (held certificate) h.cause in

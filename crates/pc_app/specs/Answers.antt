@@ -1,12 +1,10 @@
 -- Which status and which text answer the words, by what is held under the names, where nothing outside keeps the call from answering.
-use Rattle.std.specs.Prelude.{◌≡◌, ◌≤◌, ℕ, Some, None, List, length}
+use Rattle.std.specs.Prelude.{◌≡◌, ◌≤◌, ℕ, List, length}
 use Rattle.pc_ports.specs.Outside.{Holding}
 use Rattle.pc_rows.specs.Linear.{Linear}
 use Rattle.pc_text.specs.Bytes.{Bytes}
-use Rattle.pc_text.specs.declared.place.Place.{Place}
 use Rattle.pc_program.specs.declared.program.Program.{Program}
 use Rattle.pc_show.specs.Canonical.{program_text}
-use Rattle.pc_program.specs.Loops.{first, whiles_of}
 use Rattle.pc_certificate.specs.Certificate.{Certificate, condition_of}
 use Rattle.pc_cert.specs.CertificateTexts.{IsTextOf}
 use Rattle.pc_cert.specs.Conditions.{condition_text}
@@ -16,20 +14,15 @@ use Rattle.pc_replay.specs.Rule.{ruling}
 use Rattle.pc_runner.specs.Runs.{SaysOf}
 use Rattle.pc_runner.specs.Scripts.{Choosing}
 use Rattle.pc_runner.specs.declared.verdict.Verdict.{Verdict}
-use Rattle.pc_app.specs.declared.status.TheConstants.{DONE, USAGE, REFUSED}
+use Rattle.pc_app.specs.declared.status.TheConstants.{DONE, USAGE}
 use Rattle.pc_app.specs.declared.limits.TheConstants.{CERTIFICATE_BYTES}
 use Rattle.pc_app.specs.Files.{OnFile}
 use Rattle.pc_app.specs.Kinds.{source_kind, script_kind, certificate_kind}
 use Rattle.pc_app.specs.Words.{Order, Infer, Certify, Replay, Run, Show, IsOrder, IsPlain}
 use Rattle.pc_app.specs.Inferred.{Inferred}
-use Rattle.pc_app.specs.Texts.{usage, not_built, refused}
+use Rattle.pc_app.specs.Texts.{usage}
 use Rattle.pc_app.specs.Rulings.{ruling_status, ruling_text}
 use Rattle.pc_app.specs.Verdicts.{verdict_status, verdict_text}
-
--- how an analysis answers a program: it has a loop and is not analysed yet, or is analysed
-pub data AnalysisAnswers (A : Program → ℕ → Bytes → Type 0) (p : Program) (status : ℕ) (text : Bytes) : Type 0 where
-  IsNotBuilt : (place : Place) → first (whiles_of p.body) ≡ Some place → status ≡ REFUSED → text ≡ refused (not_built place) → AnalysisAnswers A p status text
-  IsAnalysed : first (whiles_of p.body) ≡ None → A p status text → AnalysisAnswers A p status text
 
 -- how `infer` answers a program: by a condition
 pub record InferAnswers (p : Program) (status : ℕ) (text : Bytes) : Type 0 where
@@ -73,8 +66,8 @@ OnRun held p status text = OnFile (script_kind p.names.params) (RunAnswers p) he
 
 -- how an order is answered
 abbrev pub OrderAnswers : (Bytes → Holding) → Order → ℕ → Bytes → Type 0
-OrderAnswers held (Infer source) status text = OnFile source_kind (AnalysisAnswers InferAnswers) (held source) status text
-OrderAnswers held (Certify source) status text = OnFile source_kind (AnalysisAnswers CertifyAnswers) (held source) status text
+OrderAnswers held (Infer source) status text = OnFile source_kind InferAnswers (held source) status text
+OrderAnswers held (Certify source) status text = OnFile source_kind CertifyAnswers (held source) status text
 OrderAnswers held (Replay source certificate) status text = OnFile source_kind (OnReplay (held certificate)) (held source) status text
 OrderAnswers held (Run source script) status text = OnFile source_kind (OnRun (held script)) (held source) status text
 OrderAnswers held (Show source) status text = OnFile source_kind ShowAnswers (held source) status text

@@ -4,7 +4,6 @@ use Rattle.pc_ports.specs.Outside.{Holding, Untold, Nothing, Held}
 use Rattle.pc_text.specs.Bytes.{Bytes}
 use Rattle.pc_program.specs.declared.program.Program.{Program}
 use Rattle.pc_app.specs.declared.status.TheConstants.{DONE, FAILED, PAST}
-use Rattle.pc_app.specs.Analysed.{IsAnalysed}
 use Rattle.pc_app.specs.Files.{Kind, MayMean}
 use Rattle.pc_app.specs.Kinds.{source_kind, script_kind, certificate_kind}
 use Rattle.pc_app.specs.Words.{Order, Infer, Certify, Replay, Run, Show}
@@ -27,13 +26,6 @@ IsMeaningless kind held = IsHeld (λ bytes. (length bytes ≤ kind.limit) × ((m
 abbrev pub IsMeant : Kind → Holding → Type 0
 IsMeant kind held = IsHeld (λ bytes. (length bytes ≤ kind.limit) × ((m : kind.Meaning) × kind.Means bytes m)) held
 
--- the file holds bytes, no more than the limit of a source, that spell no program that is analysed; or one that is
-abbrev pub IsNotAnalysed : Holding → Type 0
-IsNotAnalysed held = IsHeld (λ bytes. (length bytes ≤ source_kind.limit) × (IsAnalysed bytes → ⊥)) held
-
-abbrev pub HoldsAnalysed : Holding → Type 0
-HoldsAnalysed held = IsHeld (λ bytes. (length bytes ≤ source_kind.limit) × IsAnalysed bytes) held
-
 -- a source is read as a program, of which this holds
 pub record Behind (source : Holding) (P : Program → Type 0) : Type 0 where
   pub program : Program
@@ -48,10 +40,10 @@ OrderIsTooLong held (Replay source certificate) = IsOver source_kind (held sourc
 OrderIsTooLong held (Run source script) = IsOver source_kind (held source) ⊎ Behind (held source) (λ p. IsOver (script_kind p.names.params) (held script))
 OrderIsTooLong held (Show source) = IsOver source_kind (held source)
 
--- the source of the order spells no program, or none that is analysed where that is ordered
+-- the source of the order spells no program
 abbrev pub OrderIsRefused : (Bytes → Holding) → Order → Type 0
-OrderIsRefused held (Infer source) = IsNotAnalysed (held source)
-OrderIsRefused held (Certify source) = IsNotAnalysed (held source)
+OrderIsRefused held (Infer source) = IsMeaningless source_kind (held source)
+OrderIsRefused held (Certify source) = IsMeaningless source_kind (held source)
 OrderIsRefused held (Replay source certificate) = IsMeaningless source_kind (held source)
 OrderIsRefused held (Run source script) = IsMeaningless source_kind (held source)
 OrderIsRefused held (Show source) = IsMeaningless source_kind (held source)
@@ -66,8 +58,8 @@ OrderIsMalformed held (Show source) = ⊥
 
 -- each file of the order is what it is to be
 abbrev pub OrderIsMeant : (Bytes → Holding) → Order → Type 0
-OrderIsMeant held (Infer source) = HoldsAnalysed (held source)
-OrderIsMeant held (Certify source) = HoldsAnalysed (held source)
+OrderIsMeant held (Infer source) = IsMeant source_kind (held source)
+OrderIsMeant held (Certify source) = IsMeant source_kind (held source)
 OrderIsMeant held (Replay source certificate) = Behind (held source) (λ p. IsMeant certificate_kind (held certificate))
 OrderIsMeant held (Run source script) = Behind (held source) (λ p. IsMeant (script_kind p.names.params) (held script))
 OrderIsMeant held (Show source) = IsMeant source_kind (held source)

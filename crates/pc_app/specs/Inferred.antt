@@ -8,7 +8,9 @@ use Rattle.pc_rows.specs.Linear.{State}
 use Rattle.pc_program.specs.Machine.{Violated, run_of, Safe}
 use Rattle.pc_graph.specs.Lowering.{graph}
 use Rattle.pc_graph.specs.Straight.{are_straight}
+use Rattle.pc_lower.specs.declared.mode.Mode.{Mode}
 use Rattle.pc_lower.specs.Tame.{IsTame}
+use Rattle.pc_certify.specs.Inferring.{Covers}
 use Rattle.pc_app.specs.declared.limits.TheConstants.{ALTERNATIVES}
 
 -- an entry state of a program gives an integer to each parameter
@@ -38,8 +40,14 @@ pub record IsTameAndStraight (p : Program) : Type 0 where
   pub straight : are_straight p.body ≡ true
   pub tame : IsTame (graph p)
 
--- a condition for a program: it suffices, and is needed where the program is tame and straight
+-- every state that meets a guess at the rows of the program's loops at the entry meets the condition, where the guess is promised
+-- to be found: its numbers are tame, and what is owed at the heads of loops has multipliers and is asked modestly
+abbrev pub CoversGuesses : Program → List (List Linear) → Type 0
+CoversGuesses p condition = (m : Mode) → Covers (graph p) m condition
+
+-- a condition for a program: it suffices, it is needed where the program is tame and straight, and no promised guess is lost
 pub record Inferred (p : Program) (condition : List (List Linear)) : Type 0 where
   pub small : IsCondition p condition
   pub sound : Suffices p condition
   pub exact : IsTameAndStraight p → IsNeeded p condition
+  pub covers : CoversGuesses p condition

@@ -3,7 +3,6 @@ pub mod Texts
 pub mod Verdicts
 pub mod Rulings
 pub mod Inferred
-pub mod Analysed
 pub mod Files
 pub mod Kinds
 pub mod Answers

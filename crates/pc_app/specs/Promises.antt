@@ -18,7 +18,7 @@ use Rattle.pc_runner.specs.declared.verdict.Verdict.{Verdict}
 use Rattle.pc_app.specs.declared.status.TheConstants.{STORE_FAILED, SINK_FAILED, NO_MEMORY}
 use Rattle.pc_app.specs.declared.limits.TheConstants.{CERTIFICATE_BYTES}
 use Rattle.pc_app.specs.Rulings.{ruling_status, ruling_text}
-use Rattle.pc_app.specs.Inferred.{IsCondition, Suffices, IsNeeded, IsTameAndStraight}
+use Rattle.pc_app.specs.Inferred.{IsCondition, Suffices, IsNeeded, IsTameAndStraight, CoversGuesses}
 use Rattle.pc_app.specs.Words.{Order, IsOrder, files_of}
 use Rattle.pc_app.specs.Verdicts.{verdict_status, verdict_text}
 use Rattle.pc_app.specs.Answers.{Answers}
@@ -38,9 +38,14 @@ pub record PrintedIsExact (bytes : Bytes) (old new : Option Bytes) : Type 0 wher
   pub suffices : PrintedSuffices bytes old new
   pub needed : IsTameAndStraight suffices.program → IsNeeded suffices.program suffices.condition
 
+-- the same, and every state that meets a promised guess at the rows of the program's loops meets the condition
+pub record PrintedCovers (bytes : Bytes) (old new : Option Bytes) : Type 0 where
+  pub suffices : PrintedSuffices bytes old new
+  pub covers : CoversGuesses suffices.program suffices.condition
+
 -- the bytes of a source spell a program; what was appended is the text of a certificate that is right for the program's graph, and
--- that is not too long to be read; every entry state that meets its condition is safe, and where the program is tame and straight
--- each other entry state has choices that violate an assertion
+-- that is not too long to be read; every entry state that meets its condition is safe, where the program is tame and straight each
+-- other entry state has choices that violate an assertion, and every state that meets a promised guess meets the condition
 pub record PrintedCertificate (bytes : Bytes) (old new : Option Bytes) : Type 0 where
   pub program : Program
   pub spelled : Spells bytes program
@@ -53,6 +58,7 @@ pub record PrintedCertificate (bytes : Bytes) (old new : Option Bytes) : Type 0 
   pub small : IsCondition program (condition_of certificate)
   pub safe : Suffices program (condition_of certificate)
   pub needed : IsTameAndStraight program → IsNeeded program (condition_of certificate)
+  pub covers : CoversGuesses program (condition_of certificate)
 
 -- the bytes of a source spell a program, those of a certificate are the text of one; the status and what was appended are those of
 -- the ruling on it for the program's graph

@@ -52,10 +52,6 @@ fault_text fault.NoMemory = []
 abbrev pub refused : Bytes → Bytes
 refused why = codes "source: " ++ why ++ codes "\n"
 
--- what is told of a program that is not analysed yet, with the place of the first statement that keeps it from being
-abbrev pub not_built : Place → Bytes
-not_built p = codes "not-built " ++ place_text p
-
 abbrev pub line_text : ℕ → Bytes
 line_text n = codes "line " ++ numeral (pos n)
 

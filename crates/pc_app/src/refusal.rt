@@ -1,7 +1,7 @@
 //! The line that tells why a source is refused.
 
 ghost use Rattle.std.specs.Prelude.{◌≡◌, ◌≢◌, ◌++◌, OnOk, IfOk};
-ghost use Rattle.pc_app.specs.Texts.{place_text, also, fault_text, not_built, refused};
+ghost use Rattle.pc_app.specs.Texts.{place_text, also, fault_text, refused};
 
 use pc_syntax::SourceFault;
 use pc_text::{NoMemory, Place, Text};
@@ -15,17 +15,6 @@ pub(crate) fn refusal_of(alloc: Global, fault: SourceFault) -> Result<Text, NoMe
     let mut text = Text::new(alloc);
     text.push_all(b"source: ")?;
     push_fault(&mut text, fault)?;
-    text.push(b'\n')?;
-    Ok(text)
-}
-
-/// The line of a program that is not analysed yet, since it has such a statement at this place.
-pub(crate) fn refusal_at(alloc: Global, place: Place) -> Result<Text, NoMemory>
-    ensures { IfOk result (λ t. t ≡ refused (not_built place)) }
-{
-    let mut text = Text::new(alloc);
-    text.push_all(b"source: ")?;
-    push_at(&mut text, b"not-built ", place)?;
     text.push(b'\n')?;
     Ok(text)
 }

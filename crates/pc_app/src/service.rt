@@ -5,7 +5,7 @@ ghost use Rattle.pc_ports.specs.Outside.{Rose};
 ghost use Rattle.pc_app.specs.Words.{Order, IsOrder, IsInfer, IsCertify, IsReplay, IsRun, IsShow, IsPlain, files_of};
 ghost use Rattle.pc_app.specs.Silences.{LacksFile};
 ghost use Rattle.pc_app.specs.Causes.{IsRuling, IsVerdict, OrderIsTooLong, OrderIsRefused, OrderIsMalformed, OrderIsMeant, IsOutcome};
-ghost use Rattle.pc_app.specs.Promises.{OfBytes, PrintedSuffices, PrintedIsExact, PrintedCertificate, PrintedRuling, PrintedAccepted, PrintedVerdict, PrintedProgram, AreTold, AreThere, IsOnlyStatus, IsWritten, IsAnswered, HasAnswered, IsCutOff, Ends};
+ghost use Rattle.pc_app.specs.Promises.{OfBytes, PrintedSuffices, PrintedIsExact, PrintedCovers, PrintedCertificate, PrintedRuling, PrintedAccepted, PrintedVerdict, PrintedProgram, AreTold, AreThere, IsOnlyStatus, IsWritten, IsAnswered, HasAnswered, IsCutOff, Ends};
 
 use crate::answer::{Answer, Stop, answer_to_words};
 use crate::status::{
@@ -40,8 +40,14 @@ pub fn serve<S: Store, K: Sink>(alloc: Global, words: &[String], store: &mut S, 
     ensures exact { (name : List ℕ) → IsInfer (map string_bytes words.now) name → result ≡ DONE →
         OfBytes (λ bytes. PrintedIsExact bytes (K.written out.old) (K.written out.new)) (S.holding store.old name) }
 
+    // Of each of the five guesses at the rows of loops whose numbers are tame, and whose proofs at the heads of loops
+    // are there and are modest: every state that meets its rows at the entry meets the condition.
+    ensures covering { (name : List ℕ) → IsInfer (map string_bytes words.now) name → result ≡ DONE →
+        OfBytes (λ bytes. PrintedCovers bytes (K.written out.old) (K.written out.new)) (S.holding store.old name) }
+
     // Words `infer F --certificate`, done: a certificate was printed that is right for the program, and
-    // every entry state that meets its condition is safe; on tame and straight programs no other is.
+    // every entry state that meets its condition is safe; on tame and straight programs no other is. It covers
+    // the guesses as a condition does.
     ensures certified { (name : List ℕ) → IsCertify (map string_bytes words.now) name → result ≡ DONE →
         OfBytes (λ bytes. PrintedCertificate bytes (K.written out.old) (K.written out.new)) (S.holding store.old name) }
 
@@ -80,7 +86,7 @@ pub fn serve<S: Store, K: Sink>(alloc: Global, words: &[String], store: &mut S, 
     ensures too_long { (order : Order) → IsOrder (map string_bytes words.now) order → AreTold (S.holding store.old) (files_of order) →
         IsAnswered result → (result ≡ TOO_LONG) ↔ OrderIsTooLong (S.holding store.old) order }
 
-    // Refused exactly where the bytes of the source spell no program, or none that is analysed where that is ordered.
+    // Refused exactly where the bytes of the source spell no program.
     ensures refused { (order : Order) → IsOrder (map string_bytes words.now) order → AreTold (S.holding store.old) (files_of order) →
         IsAnswered result → (result ≡ REFUSED) ↔ OrderIsRefused (S.holding store.old) order }
 

@@ -10,7 +10,7 @@ pub const FAILED: u8 = 1;
 /// The words are no command; how the program is used was written.
 pub const USAGE: u8 = 2;
 
-/// The source spells no program that is analysed; the line that says why was written.
+/// The source spells no program; the line that says why was written.
 pub const REFUSED: u8 = 3;
 
 /// The script or the certificate is not in its grammar; the line that says why was written.

@@ -1,4 +1,4 @@
-//! Blocks: a title, the words of a call, the texts that it is about, and what it prints.
+//! Blocks: a title, what is called, the texts that it is about, and what it prints.
 
 use crate::call::{Call, Outcome};
 use crate::fault::Fault;
@@ -54,8 +54,8 @@ impl Block {
         })
     }
 
-    /// Takes the next line: the words of the call, a directive, or a line of the text that was
-    /// begun last.
+    /// Takes the next line: the words of the program, the name of a call by itself, a directive, or
+    /// a line of the text that was begun last.
     pub fn take<S: Store>(
         &mut self,
         alloc: Global,
@@ -64,6 +64,8 @@ impl Block {
     ) -> Result<(), Fault> {
         if let Some(words) = line.strip_prefix("$") {
             self.call.say(alloc, words)
+        } else if let Some(name) = line.strip_prefix("> ") {
+            self.call.name(alloc, name)
         } else if let Some(directive) = line.strip_prefix("-- ") {
             self.follow(alloc, store, directive)
         } else if let Role::Missing = self.role {

@@ -1,13 +1,17 @@
 //! Calls over memory.
 
+use crate::alone::{Texts, answer};
 use crate::fault::Fault;
 use crate::text::Text;
 use pc_app::serve;
-use pc_ports::{Calls, Files, MemorySink, MemoryStore};
+use pc_ports::{Calls, Files, MemorySink, MemoryStore, put_all};
 use std::alloc::Global;
 
 /// The room of a sink of which a case tells none.
 const ROOM: usize = 65_536;
+
+/// The status of a call by itself whose answer was not written, as a command has it.
+const WRITE_FAILED: u8 = 6;
 
 /// What comes of a call.
 #[derive(Drop)]
@@ -18,10 +22,19 @@ pub struct Outcome {
     pub text: Vec<u8>,
 }
 
-/// The words of a call, and the store and the sink that it is made over.
+/// What is called.
+#[derive(Drop)]
+enum Called {
+    /// The whole program, with these words.
+    Program(Vec<String>),
+    /// The call of this name by itself, over the texts that the store holds.
+    Alone(String),
+}
+
+/// What is called, and the store and the sink that it is called over.
 #[derive(Drop)]
 pub struct Call {
-    words: Option<Vec<String>>,
+    called: Option<Called>,
     files: Files,
     failing_reads: Calls,
     room: usize,
@@ -33,7 +46,7 @@ impl Call {
     /// A call without words and files, over a store that does not fail and a sink that takes all.
     pub fn new(alloc: Global) -> Call {
         Call {
-            words: None,
+            called: None,
             files: Files::new(alloc),
             failing_reads: Calls::new(alloc),
             room: ROOM,
@@ -44,16 +57,25 @@ impl Call {
 
     /// Tells the words, parted by spaces; two quotation marks are the empty word.
     pub fn say(&mut self, alloc: Global, line: &str) -> Result<(), Fault> {
-        if self.words.is_some() {
-            return Err(Fault::Words);
-        }
         let mut words = Vec::new(alloc);
         for word in line.split_whitespace() {
             let word = if word == "\"\"" { "" } else { word };
             words.push(String::from_str(alloc, word)?)?;
         }
-        self.words = Some(words);
-        Ok(())
+        self.call(Called::Program(words))
+    }
+
+    /// Names a call by itself.
+    pub fn name(&mut self, alloc: Global, name: &str) -> Result<(), Fault> {
+        self.call(Called::Alone(String::from_str(alloc, name)?))
+    }
+
+    /// Tells what is called.
+    fn call(&mut self, called: Called) -> Result<(), Fault> {
+        match self.called.replace(called) {
+            None => Ok(()),
+            Some(_) => Err(Fault::Words),
+        }
     }
 
     /// Puts a file into the store.
@@ -80,14 +102,14 @@ impl Call {
     /// Makes the call.
     pub fn outcome(self, alloc: Global) -> Result<Outcome, Fault> {
         let Call {
-            words,
+            called,
             files,
             failing_reads,
             room,
             most,
             failing_writes,
         } = self;
-        let Some(words) = words else {
+        let Some(called) = called else {
             return Err(Fault::Words);
         };
         if most == 0 {
@@ -95,7 +117,16 @@ impl Call {
         }
         let mut store = MemoryStore::new(files, failing_reads);
         let mut sink = MemorySink::new(alloc, room, most, failing_writes)?;
-        let status = serve(alloc, words.as_slice(), &mut store, &mut sink);
+        let status = match called {
+            Called::Program(words) => serve(alloc, words.as_slice(), &mut store, &mut sink),
+            Called::Alone(name) => {
+                let text = answer(alloc, name.as_str(), &mut Texts::new(store))?;
+                match put_all(&mut sink, text.into_bytes().as_slice()) {
+                    Ok(()) => 0,
+                    Err(_) => WRITE_FAILED,
+                }
+            }
+        };
         let text = Vec::from_slice(alloc, sink.written())?;
         Ok(Outcome { status, text })
     }

@@ -1,6 +1,7 @@
 //! What is wrong with a file of cases.
 
 use pc_ports::NoMemory;
+use pc_rows::RowsFault;
 use std::alloc::{AllocError, AllocFailed};
 use std::num::ParseIntError;
 
@@ -15,7 +16,7 @@ pub enum Fault {
     Unended,
     /// A block ends without a status and a text, or goes on after them.
     Unprinted,
-    /// A block has no words, or has them twice.
+    /// A block calls nothing, or calls twice.
     Words,
     /// A line or a change comes before any text.
     Textless,
@@ -37,7 +38,7 @@ impl Fault {
             Fault::Outside => "a line outside of blocks",
             Fault::Unended => "the last line has no line feed",
             Fault::Unprinted => "a block has one `-- prints`, which comes last",
-            Fault::Words => "a block has one line `$`",
+            Fault::Words => "a block has one line `$` or `>`",
             Fault::Textless => "no text was begun",
             Fault::Directive => "an unknown directive",
             Fault::Number => "a number that is out of range",
@@ -62,6 +63,27 @@ impl<T: Drop> From<AllocFailed<T>> for Fault {
 impl From<NoMemory> for Fault {
     fn from(_fault: NoMemory) -> Fault {
         Fault::Memory
+    }
+}
+
+impl From<pc_rows::NoMemory> for Fault {
+    fn from(_fault: pc_rows::NoMemory) -> Fault {
+        Fault::Memory
+    }
+}
+
+impl From<pc_text::NoMemory> for Fault {
+    fn from(_fault: pc_text::NoMemory) -> Fault {
+        Fault::Memory
+    }
+}
+
+impl From<RowsFault> for Fault {
+    fn from(fault: RowsFault) -> Fault {
+        match fault {
+            RowsFault::Full => Fault::Number,
+            RowsFault::NoMemory => Fault::Memory,
+        }
     }
 }
 

@@ -3,6 +3,7 @@
 //! The head of `data/index` tells how a case is written.
 #![tactic(auto)]
 
+mod alone;
 mod block;
 mod call;
 mod fault;

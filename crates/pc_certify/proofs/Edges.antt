@@ -20,7 +20,7 @@ use Rattle.pc_certify.specs.Causes.{EdgeFails}
 use Rattle.pc_certify.specs.Proving.{RowsAre, EdgeDone, EdgeIs}
 use Rattle.pc_certify.proofs.Pairs.{pairs_long}
 
-each_mapped : {A B : Type 0} (P : B → Type 0) (f : A → B) (xs : List A) → AllByRecursion P (map f xs) → AllByRecursion (λ x. P (f x)) xs
+pub each_mapped : {A B : Type 0} (P : B → Type 0) (f : A → B) (xs : List A) → AllByRecursion P (map f xs) → AllByRecursion (λ x. P (f x)) xs
 each_mapped P f [] h = tt
 each_mapped P f (x ∷ xs) h = (h.0, each_mapped P f xs h.1)
 

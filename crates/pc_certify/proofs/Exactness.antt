@@ -8,7 +8,7 @@ use Rattle.pc_flow.specs.Annotation.{rows_at}
 use Rattle.pc_lower.specs.Annotation.{no_rows}
 use Rattle.pc_lower.proofs.Paying.{need_is_owed}
 use Rattle.pc_replay.proofs.Sound.{entered_value, entered_long}
-use Rattle.pc_certify.specs.Inferring.{graph_need}
+use Rattle.pc_certify.specs.Candidates.{graph_need}
 use Rattle.pc_certify.specs.Laws.{InferIsExactOnGraphs}
 
 -- the locals are 0 at the entry

@@ -5,7 +5,12 @@ pub mod Proofs
 pub mod Edges
 pub mod Claimed
 pub mod Taming
+pub mod Promises
 pub mod Choosing
+pub mod Beside
+pub mod Selecting
+pub mod Keeping
+pub mod Certificates
 pub mod Renewing
 pub mod Reductions
 pub mod Exactness

@@ -14,7 +14,7 @@ use Rattle.pc_entail.specs.Reduction.{Thinned, IsSplit, RemovesShown}
 use Rattle.pc_entail.proofs.Removing.{stay_each}
 use Rattle.pc_replay.specs.Accepts.{RowProved}
 use Rattle.pc_certify.specs.Claims.{IsProved}
-use Rattle.pc_certify.specs.Inferring.{IsNotRenewed, ReducesTo}
+use Rattle.pc_certify.specs.Entries.{IsNotRenewed, ReducesTo}
 use Rattle.pc_certify.specs.Lists.{Pairwise}
 use Rattle.pc_certify.specs.Proving.{EdgeDone, RenewedIs}
 

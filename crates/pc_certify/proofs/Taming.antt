@@ -1,4 +1,4 @@
--- On a tame graph without loops all that is computed for the proofs is in range.
+-- Where numbers are tame all that is computed for the proofs of rows is in range.
 use Rattle.std.proofs.Common.{◌≡◌, ℕ, zero, suc, ◌+◌, ◌*◌, ℤ, pos, negsuc, ◌+ℤ◌, ◌*ℤ◌, neg_ℤ, List, [], ◌∷◌, set, subst, arith, Bool, true, false, cond, Option, Some, ◌≤◌, inl, inr}
 use Rattle.std.specs.Prelude.{replicate}
 use Rattle.std.specs.List.{AllByRecursion, find}
@@ -6,27 +6,20 @@ use Rattle.std.proofs.lemmas.Int.{ints}
 use Rattle.pc_rows.specs.Linear.{Linear, coefficient, is_zero, add_lists, scale_list, negate_list, zero_from, negation}
 use Rattle.pc_rows.specs.Bounds.{IsWithin, AreWithin, Within, AllWithin}
 use Rattle.pc_rows.specs.Joins.{is_at_most}
+use Rattle.pc_rows.specs.Modest.{IsModest}
 use Rattle.pc_rows.specs.Substitution.{carried, never_row, least_product, needs_open_end}
 use Rattle.pc_rows.specs.Laws.{EndIsWithin}
 use Rattle.pc_rows.specs.declared.row.TheConstants.{VARIABLES}
 use Rattle.pc_rows.proofs.Bounding.{product_within, sum_within, opposite_within, least_within, within_in_range, more_within, scale_within, add_within, negate_within, at_within, set_within, small_substitution_fits}
-use Rattle.pc_rows.proofs.Joining.{each_join}
 use Rattle.pc_language.specs.Ends.{end_of}
 use Rattle.pc_elim.proofs.SmallRows.{row_more, row_in_range}
 use Rattle.pc_flow.specs.declared.what.What.{What}
 use Rattle.pc_flow.specs.declared.what.What.TheVariants.{Enter, Test, Set, Check}
-use Rattle.pc_flow.specs.Arc.{Arc}
-use Rattle.pc_flow.specs.Carry.{BackFits, back, test_rows}
-use Rattle.pc_flow.specs.Flow.{Flow}
+use Rattle.pc_flow.specs.Carry.{BackFits, back}
 use Rattle.pc_flow.specs.Lists.{AnyOf}
-use Rattle.pc_flow.specs.Annotation.{rows_at}
-use Rattle.pc_lower.specs.Annotation.{no_rows, NoHeads}
-use Rattle.pc_lower.specs.Need.{need}
-use Rattle.pc_lower.specs.Tame.{tame_bound, HasTameNumbers, AreTame, IsTame}
-use Rattle.pc_lower.proofs.Paying.{no_head}
-use Rattle.pc_flow.specs.Carry.{asked}
-use Rattle.pc_flow.specs.Carry.{premises}
-use Rattle.pc_certify.specs.Causes.{RowFails, EdgeFails, Fails}
+use Rattle.pc_lower.specs.Tame.{tame_bound, HasTameNumbers}
+use Rattle.pc_entail.specs.Showing.{question, IsShown}
+use Rattle.pc_certify.specs.Causes.{IsPast, RowFails}
 
 -- rows carried back
 
@@ -97,50 +90,30 @@ each_found P p (y ∷ xs) x h e = by (p y) e (λ f. each_found P p xs x h.1 f)
     by true e more = let same : y ≡ x = cc in subst P same h.0
     by false e more = more e
 
-row_holds : (w : What) (rows : List Linear) (r : Linear) → HasTameNumbers w → AllWithin tame_bound rows → Within tame_bound r → RowFails false w rows r → ⊥
-row_holds w rows r tame within h (inl (inl past)) = past (back_fits w r tame h)
-row_holds w rows r tame within h (inl (inr past)) =
+-- a row that is owed is in range
+not_past : (w : What) (r : Linear) → HasTameNumbers w → Within tame_bound r → IsPast w r → ⊥
+not_past w r tame h (inl past) = past (back_fits w r tame h)
+not_past w r tame h (inr past) =
     past (row_in_range (carried_bound tame_bound + 1) (negation (back w r)) (omega arith) (negation_within (carried_bound tame_bound) (back w r) (back_within w r tame h)))
+
+row_holds : (w : What) (rows : List Linear) (r : Linear) → HasTameNumbers w → AllWithin tame_bound rows → Within tame_bound r → RowFails false w rows r → ⊥
+row_holds w rows r tame within h (inl past) = not_past w r tame h past
 row_holds w rows r tame within h (inr (a, found, past)) =
     let negated = (negation_within (carried_bound tame_bound) (back w r) (back_within w r tame h)).constant in
     let cover = (each_found (Within tame_bound) (λ q. is_at_most q (back w r)) rows a within found).constant in
     past (within_in_range (carried_bound tame_bound + 1 + tame_bound) ((negation (back w r)).constant +ℤ a.constant) (omega arith)
     (sum_within (carried_bound tame_bound + 1) tame_bound (negation (back w r)).constant a.constant negated cover))
 
--- no edge fails
+pub rows_hold : (w : What) (all rows : List Linear) → HasTameNumbers w → AllWithin tame_bound all → AllWithin tame_bound rows → AnyOf (RowFails false w all) rows → ⊥
+rows_hold w all [] tame premises h any = any
+rows_hold w all (r ∷ rows) tame premises h (inl fails) = row_holds w all r tame premises h.0 fails
+rows_hold w all (r ∷ rows) tame premises h (inr any) = rows_hold w all rows tame premises h.1 any
 
-none_of : {A : Type 0} (P Q : A → Type 0) → ((x : A) → Q x → P x → ⊥) → (xs : List A) → AllByRecursion Q xs → AnyOf P xs → ⊥
-none_of P Q f [] h any = any
-none_of P Q f (x ∷ xs) h (inl p) = f x h.0 p
-none_of P Q f (x ∷ xs) h (inr more) = none_of P Q f xs h.1 more
-
-tame_at : (a : List (List Linear)) (p : ℕ) → AllByRecursion AreTame a → AllWithin tame_bound (rows_at a p)
-tame_at [] p h = tt
-tame_at (rows ∷ a) zero h = h.0.numbers
-tame_at (rows ∷ a) (suc p) h = tame_at a p h.1
-
-test_within : (w : What) → HasTameNumbers w → AllWithin tame_bound (test_rows w)
-test_within (Enter params) tame = tt
-test_within (Test own) tame = tame
-test_within (Set x form lo hi) tame = tt
-test_within (Check own) tame = tt
-
-asked_within : (w : What) (rows : List Linear) → HasTameNumbers w → AllWithin tame_bound rows → AllWithin tame_bound (asked w rows)
-asked_within (Enter params) rows tame h = h
-asked_within (Test own) rows tame h = h
-asked_within (Set x form lo hi) rows tame h = h
-asked_within (Check own) rows tame h = each_join (Within tame_bound) own rows tame h
-
-module _ (g : Flow) (none : NoHeads g.points) (tame : IsTame g) where
-  abbrev a : List (List Linear)
-  a = need g (no_rows g.points)
-
-  edge_holds : (e : Arc) → HasTameNumbers e.what → EdgeFails g.points a e → ⊥
-  edge_holds e numbers fails =
-      let rows = each_join (Within tame_bound) (rows_at a e.from) (test_rows e.what) (tame_at a e.from tame.points) (test_within e.what numbers) in
-      none_of (RowFails false e.what (premises e.what (rows_at a e.from))) (Within tame_bound) (λ r h. row_holds e.what (premises e.what (rows_at a e.from)) r numbers rows h) (asked e.what (rows_at a e.to))
-      (asked_within e.what (rows_at a e.to) numbers (tame_at a e.to tame.points))
-      (subst (λ (b : Bool). AnyOf (RowFails b e.what (premises e.what (rows_at a e.from))) (asked e.what (rows_at a e.to))) (no_head g.points e.from none) fails)
-
-  pub tame_is_proved : Fails g a → ⊥
-  tame_is_proved fails = none_of (EdgeFails g.points a) (λ e. HasTameNumbers e.what) edge_holds g.edges tame.edges fails
+-- over an edge from a head they are shown, and asked modestly
+pub shown_rows_hold : (w : What) (all rows : List Linear) → HasTameNumbers w → AllWithin tame_bound rows → AllByRecursion (λ r. IsShown all (back w r)) rows →
+    AllByRecursion (λ r. IsModest (question all (back w r))) rows → AnyOf (RowFails true w all) rows → ⊥
+shown_rows_hold w all [] tame h shown modest any = any
+shown_rows_hold w all (r ∷ rows) tame h shown modest (inl (inl past)) = not_past w r tame h.0 past
+shown_rows_hold w all (r ∷ rows) tame h shown modest (inl (inr (inl immodest))) = immodest modest.0
+shown_rows_hold w all (r ∷ rows) tame h shown modest (inl (inr (inr unshown))) = unshown shown.0
+shown_rows_hold w all (r ∷ rows) tame h shown modest (inr any) = shown_rows_hold w all rows tame h.1 shown.1 modest.1 any

@@ -1,111 +1,87 @@
--- What is inferred of a graph without loops.
-use Rattle.std.specs.Prelude.{◌≡◌, ◌⊎◌, ◌≤◌, ◌↔◌, ℕ, true, List, [], ◌∷◌, length, Option, Some, None, Result, Ok, Err}
+-- What is inferred of a graph.
+use Rattle.std.specs.Prelude.{◌≡◌, ◌⊎◌, ◌≤◌, List, [], length, Option, Some, None, Result, Ok, Err}
 use Rattle.std.specs.List.{AllByRecursion}
 use Rattle.pc_rows.specs.declared.rows.NoMemory.{NoMemory}
-use Rattle.pc_rows.specs.declared.rows.TheConstants.{ROWS}
-use Rattle.pc_rows.specs.Linear.{Linear, State, MeetsAll, MeetsSome, IsOver}
-use Rattle.pc_rows.specs.Modest.{IsModest}
-use Rattle.pc_flow.specs.declared.what.What.TheVariants.{Enter}
+use Rattle.pc_rows.specs.Linear.{Linear, State, MeetsAll, MeetsSome}
+use Rattle.pc_flow.specs.Annotation.{Annotation, rows_at}
 use Rattle.pc_flow.specs.Flow.{Flow}
-use Rattle.pc_flow.specs.Lists.{AnyOf}
-use Rattle.pc_entail.specs.Showing.{question, IsShown, AreMetSomewhere, minus_one}
-use Rattle.pc_entail.specs.Reduction.{Thinned}
-use Rattle.pc_lower.specs.declared.fault.CandidateFault.TheVariants.{Past, Full}
-use Rattle.pc_flow.specs.Annotation.{rows_at}
-use Rattle.pc_lower.specs.Annotation.{no_rows}
-use Rattle.pc_lower.specs.Need.{need}
-use Rattle.pc_lower.specs.Operations.{operations, IsFirstFault}
+use Rattle.pc_lower.specs.declared.mode.Mode.{Mode}
+use Rattle.pc_lower.specs.Annotation.{NoHeads}
+use Rattle.pc_lower.specs.Candidate.{candidate}
 use Rattle.pc_lower.specs.Tame.{IsTame}
 use Rattle.pc_certificate.specs.declared.certificate.Annotated.{Annotated}
 use Rattle.pc_certificate.specs.Certificate.{Certificate, condition_of}
-use Rattle.pc_certify.specs.Causes.{RowFails, Fails}
-use Rattle.pc_certify.specs.Claims.{IsProved}
-
--- the rows that each point of a graph without loops needs
-abbrev pub graph_need : Flow → List (List Linear)
-graph_need g = need g (no_rows g.points)
+use Rattle.pc_certify.specs.declared.inference.TheConstants.{CANDIDATES}
+use Rattle.pc_certify.specs.Candidates.{Candidate, graph_need, of_mode, IsTried, IsRefused, IsPromised}
+use Rattle.pc_certify.specs.Causes.{Fails}
+use Rattle.pc_certify.specs.Claims.{IsProved, claim}
+use Rattle.pc_certify.specs.Entries.{AreEntryRows, IsMetNowhere, IsContradictory, HasRows}
+use Rattle.pc_certify.specs.Selecting.{Selects, AreApart}
 
 -- where the graph is tame, every state that meets what is needed at the entry meets the condition
 abbrev pub IsExact : Flow → Certificate → Type 0
 IsExact g c = IsTame g → (s : State) → MeetsAll s (rows_at (graph_need g) 0) → MeetsSome s (condition_of c)
 
--- some row that is owed at the entry, for the rows `next` at the start, is not found to be shown by the rows
-abbrev pub IsNotRenewed : ℕ → List Linear → List Linear → Type 0
-IsNotRenewed params next rows = AnyOf (RowFails true (Enter params) rows) next
+-- where the candidate of a mode is promised, every state that meets its rows at the entry meets the condition
+abbrev pub Covers : Flow → Mode → List (List Linear) → Type 0
+Covers g m condition = IsPromised g m → (s : State) → MeetsAll s (rows_at (candidate g m) 0) → MeetsSome s condition
 
--- rows without those that the others show; or the rows as they are, where those that are left are not found to show what is owed
-abbrev pub IsReduced : ℕ → List Linear → List Linear → List Linear → Type 0
-IsReduced params next rows answer =
-    (left : List Linear) × Thinned rows left × ((answer ≡ left) ⊎ ((answer ≡ rows) × IsNotRenewed params next left))
+-- an alternative of the certificate: a candidate that was tried, with its rows at the entry reduced
+pub record IsAlternative (g : Flow) (b : Annotated) : Type 0 where
+  pub candidate : Candidate
+  pub tried : IsTried g candidate
+  pub entry : AreEntryRows g candidate.rows (rows_at b.rows 0)
+  pub others : HasRows candidate.rows b
 
--- what is needed at the entry, reduced
-abbrev pub IsOfEntry : Flow → List Linear → Type 0
-IsOfEntry g rows = IsReduced g.params (rows_at (graph_need g) 1) (rows_at (graph_need g) 0) rows
+-- why a candidate has no alternative
+abbrev pub HasNone : Flow → Candidate → Type 0
+HasNone g k = IsRefused k ⊎ (Fails g k.rows ⊎ IsContradictory g k.rows)
 
--- some rational point meets the rows, or it is not asked modestly whether they contradict each other
-abbrev pub MayBeMet : List Linear → Type 0
-MayBeMet rows = AreMetSomewhere rows ⊎ (IsModest (question rows minus_one) → ⊥)
-
--- the rows of an alternative at the entry
-pub record AreEntryRows (g : Flow) (rows : List Linear) : Type 0 where
-  pub most : length rows ≤ ROWS
-  pub over : AllByRecursion (IsOver g.params) rows
-  pub reduced : IsOfEntry g rows
-  pub met : MayBeMet rows
-
--- the need of the graph is not computed
-abbrev pub IsRefused : Flow → Type 0
-IsRefused g = IsFirstFault Past (operations g (no_rows g.points)) ⊎ IsFirstFault Full (operations g (no_rows g.points))
-
--- the rows of the entry contradict each other
-abbrev pub IsContradictory : Flow → Type 0
-IsContradictory g = (rows : List Linear) × IsOfEntry g rows × IsShown rows minus_one
-
--- why there is no alternative
-abbrev pub HasNone : Flow → Type 0
-HasNone g = IsRefused g ⊎ (Fails g (graph_need g) ⊎ IsContradictory g)
-
--- the need with its proofs; else why there are none. Want of memory is free
-abbrev pub CandidateIs : Flow → Result (Option Annotated) NoMemory → Type 0
-CandidateIs g (Ok (Some a)) = IsProved g a × (a.rows ≡ graph_need g)
-CandidateIs g (Ok None) = (IsTame g → ⊥) × (IsRefused g ⊎ Fails g (graph_need g))
-CandidateIs g (Err e) = Unit {0}
-
--- an alternative has what is needed at every point but the entry
-abbrev pub HasNeeds : Flow → Annotated → Type 0
-HasNeeds g a = (i : ℕ) → 1 ≤ i → rows_at a.rows i ≡ rows_at (graph_need g) i
-
--- an alternative with the rows of its entry reduced, as another one
-pub record ReducesTo (g : Flow) (a b : Annotated) : Type 0 where
+-- an alternative of an annotation
+pub record IsChosen (g : Flow) (a : Annotation) (b : Annotated) : Type 0 where
   pub proved : IsProved g b
-  pub rows : IsReduced g.params (rows_at a.rows 1) (rows_at a.rows 0) (rows_at b.rows 0)
-  pub states : (s : State) → MeetsAll s (rows_at a.rows 0) ↔ MeetsAll s (rows_at b.rows 0)
-  pub others : (i : ℕ) → 1 ≤ i → rows_at b.rows i ≡ rows_at a.rows i
+  pub entry : AreEntryRows g a (rows_at b.rows 0)
+  pub states : (s : State) → MeetsAll s (rows_at a 0) → MeetsAll s (rows_at b.rows 0)
+  pub others : HasRows a b
 
--- an alternative that is chosen; else why there is none
-pub record IsChosen (g : Flow) (a : Annotated) : Type 0 where
+-- the alternative of an annotation; else why there is none. Want of memory is free
+abbrev pub ChosenIs : Flow → Annotation → Result (Option Annotated) NoMemory → Type 0
+ChosenIs g a (Ok (Some b)) = IsChosen g a b
+ChosenIs g a (Ok None) = Fails g a ⊎ (IsContradictory g a × IsMetNowhere (rows_at a 0))
+ChosenIs g a (Err e) = Unit {0}
+
+-- a candidate has no alternative: there is a cause, and where it is promised no state meets its rows at the entry
+pub record IsNotChosen (g : Flow) (k : Candidate) (Promised : Type 0) : Type 0 where
+  pub cause : HasNone g k
+  pub states : Promised → IsMetNowhere (rows_at k.rows 0)
+
+-- the alternative of a candidate, or none
+abbrev pub ChoiceIs : Flow → Candidate → Type 0 → Result (Option Annotated) NoMemory → Type 0
+ChoiceIs g k Promised (Ok (Some b)) = IsChosen g k.rows b
+ChoiceIs g k Promised (Ok None) = IsNotChosen g k Promised
+ChoiceIs g k Promised (Err e) = Unit {0}
+
+-- what is kept after the choice for a candidate
+abbrev pub SelectsNext : Option Annotated → List Annotated → List Annotated → Type 0
+SelectsNext None kept new = new ≡ kept
+SelectsNext (Some a) kept new = Selects a kept new
+
+-- what is kept after the candidate of a mode
+abbrev pub Takes : Flow → Mode → List Annotated → List Annotated → Type 0
+Takes g m kept new =
+    (choice : Option Annotated) × ChoiceIs g (of_mode g m) (IsPromised g m) (Ok choice) × SelectsNext choice kept new
+
+-- an alternative with proofs
+pub record IsKept (g : Flow) (a : Annotated) : Type 0 where
   pub proved : IsProved g a
-  pub rows : AreEntryRows g (rows_at a.rows 0)
-  pub states : (s : State) → MeetsAll s (rows_at (graph_need g) 0) → MeetsAll s (rows_at a.rows 0)
-  pub others : HasNeeds g a
+  pub alternative : IsAlternative g a
 
-pub record IsNotChosen (g : Flow) : Type 0 where
-  pub cause : HasNone g
-  pub states : IsTame g → (s : State) → MeetsAll s (rows_at (graph_need g) 0) → ⊥
-
-abbrev pub ChoiceIs : Flow → Result (Option Annotated) NoMemory → Type 0
-ChoiceIs g (Ok (Some a)) = IsChosen g a
-ChoiceIs g (Ok None) = IsNotChosen g
-ChoiceIs g (Err e) = Unit {0}
-
--- one alternative or none
-abbrev pub AreAlternatives : Flow → List Annotated → Type 0
-AreAlternatives g [] = IsNotChosen g
-AreAlternatives g (a ∷ []) = IsChosen g a
-AreAlternatives g (a ∷ b ∷ more) = ⊥
-
--- an alternative, unless the rows of its entry are found to contradict each other
-abbrev pub PossibleIs : Annotated → Result (Option Annotated) NoMemory → Type 0
-PossibleIs a (Ok (Some b)) = (b ≡ a) × (length (rows_at a.rows 0) ≤ ROWS) × MayBeMet (rows_at a.rows 0)
-PossibleIs a (Ok None) = IsShown (rows_at a.rows 0) minus_one
-PossibleIs a (Err e) = Unit {0}
+-- the alternatives of a graph
+pub record AreAlternatives (g : Flow) (all : List Annotated) : Type 0 where
+  pub each : AllByRecursion (IsKept g) all
+  pub few : length all ≤ CANDIDATES
+  pub one : NoHeads g.points → length all ≤ 1
+  pub apart : AreApart all
+  pub none : all ≡ [] → (k : Candidate) → IsTried g k → HasNone g k
+  pub exact : NoHeads g.points → IsExact g (claim g all)
+  pub covers : (m : Mode) → Covers g m (condition_of (claim g all))

@@ -2,5 +2,9 @@ pub mod Lists
 pub mod Causes
 pub mod Proving
 pub mod Claims
+pub mod Entries
+pub mod Provable
+pub mod Candidates
+pub mod Selecting
 pub mod Inferring
 pub mod Laws

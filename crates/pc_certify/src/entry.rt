@@ -9,7 +9,7 @@ ghost use Rattle.pc_flow.specs.Shape.{IsGraph};
 ghost use Rattle.pc_flow.specs.Annotation.{rows_at};
 ghost use Rattle.pc_certify.specs.Claims.{IsProved};
 ghost use Rattle.pc_certify.specs.Proving.{EdgeDone, RenewedIs};
-ghost use Rattle.pc_certify.specs.Inferring.{ReducesTo};
+ghost use Rattle.pc_certify.specs.Entries.{ReducesTo};
 
 use crate::edge::asked_proofs;
 use crate::origin::Origin;

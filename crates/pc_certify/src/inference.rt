@@ -1,22 +1,23 @@
 //! The certificate of a graph.
 
-ghost use Rattle.std.specs.Prelude.{◌≡◌, ◌≤◌, [], length, IfOk};
+ghost use Rattle.std.specs.Prelude.{◌≡◌, ◌≤◌, [], true, false, length, IfOk};
 ghost use Rattle.std.specs.List.{AllByRecursion};
 ghost use Rattle.pc_flow.specs.Shape.{IsGraph};
+ghost use Rattle.pc_lower.specs.declared.mode.Mode.{Mode};
 ghost use Rattle.pc_lower.specs.Annotation.{NoHeads};
 ghost use Rattle.pc_certificate.specs.Certificate.{IsShowable, condition_of};
 ghost use Rattle.pc_replay.specs.Accepts.{Accepts};
 ghost use Rattle.pc_replay.specs.Laws.{IsSafe};
-ghost use Rattle.pc_certify.specs.Claims.{IsProved, claim};
-ghost use Rattle.pc_certify.specs.Inferring.{IsExact, AreEntryRows, HasNone, HasNeeds, AreAlternatives, ChoiceIs, PossibleIs, CandidateIs};
+ghost use Rattle.pc_certify.specs.Candidates.{Candidate, IsTried};
+ghost use Rattle.pc_certify.specs.Claims.{claim};
+ghost use Rattle.pc_certify.specs.Selecting.{AreApart};
+ghost use Rattle.pc_certify.specs.Inferring.{IsExact, Covers, IsAlternative, HasNone, AreAlternatives};
 
-use crate::annotation::annotated;
-use crate::entry::{entry_edge, reduced};
+use crate::choice::choice_of_need;
 use crate::lists::push;
+use crate::modes::of_modes;
 use pc_certificate::{Annotated, Certificate};
-use pc_entail::contradictory;
-use pc_flow::{Graph, rows_at};
-use pc_lower::{CandidateFault, complete, no_rows};
+use pc_flow::Graph;
 use pc_rows::NoMemory;
 use sqlite_items::Items;
 use std::alloc::Global;
@@ -24,23 +25,28 @@ use std::alloc::Global;
 /// The most alternatives of a certificate that is inferred.
 pub const CANDIDATES: usize = 9;
 
-/// The certificate of a graph without loops. Its one alternative has the rows that each point needs,
-/// with the proofs of each edge. At the entry the rows are reduced: without those that the others
-/// show; they stay as they are where those that are left are not found to show what is owed there.
+/// The certificate of a graph. The candidates of the modes are tried in the order `Hint`, `Plain`,
+/// `Tilt1`, `Tilt2`, `Escape`; a graph without loops has one candidate, the rows that each point
+/// needs. A candidate becomes an alternative as follows.
 ///
-/// There is no alternative where the rows leave the range or are too many, where they are not proved
-/// in range, or where those of the entry are found to contradict each other.
+/// 1. It is left out where its rows leave the range or are too many, or where they are not proved.
+/// 2. Its rows at the entry are reduced: without those that the others show; they stay as they are
+///    where those that are left are not found to show what is owed there.
+/// 3. It is left out where these rows are found to contradict each other.
+/// 4. It is left out where these rows are found to show every row of an alternative that is kept.
+/// 5. The kept alternatives whose rows are found to show every row of this one go, and it is kept as
+///    the last.
 pub fn infer(alloc: Global, g: &Graph) -> Result<Certificate, NoMemory>
-    requires { NoHeads g.now.points }
     ensures accepted { IfOk result (Accepts g.now) }
     ensures safe { IfOk result (IsSafe g.now) }
     ensures showable { IfOk result IsShowable }
     ensures few { IfOk result (λ c. length c.alternatives ≤ CANDIDATES) }
-    ensures one { IfOk result (λ c. length c.alternatives ≤ 1) }
-    ensures rows { IfOk result (λ c. AllByRecursion (AreEntryRows g.now) (condition_of c)) }
-    ensures needed { IfOk result (λ c. AllByRecursion (HasNeeds g.now) c.alternatives) }
-    ensures none { IfOk result (λ c. c.alternatives ≡ [] → HasNone g.now) }
-    ensures exact { IfOk result (IsExact g.now) }
+    ensures one { IfOk result (λ c. NoHeads g.now.points → length c.alternatives ≤ 1) }
+    ensures rows { IfOk result (λ c. AllByRecursion (IsAlternative g.now) c.alternatives) }
+    ensures apart { IfOk result (λ c. AreApart c.alternatives) }
+    ensures none { IfOk result (λ c. c.alternatives ≡ [] → (k : Candidate) → IsTried g.now k → HasNone g.now k) }
+    ensures exact { IfOk result (λ c. NoHeads g.now.points → IsExact g.now c) }
+    ensures covers { IfOk result (λ c. (m : Mode) → Covers g.now m (condition_of c)) }
 {
     Ok(claim(g, alternatives(alloc, g)?))
 }
@@ -59,54 +65,41 @@ fn claim(g: &Graph, alternatives: Items<Annotated>) -> Certificate
     }
 }
 
-/// The alternatives of a graph without loops: one, or none.
+/// The alternatives of a graph.
 fn alternatives(alloc: Global, g: &Graph) -> Result<Items<Annotated>, NoMemory>
+    ensures { IfOk result (AreAlternatives g.now) }
+{
+    if has_heads(g) {
+        of_modes(alloc, g)
+    } else {
+        of_need(alloc, g)
+    }
+}
+
+/// Whether a graph has loops.
+fn has_heads(g: &Graph) -> bool
+    ensures some { result ≡ true → NoHeads g.now.points → ⊥ }
+    ensures none { result ≡ false → NoHeads g.now.points }
+{
+    for p in 0..g.points() {
+        if g.is_head(p) {
+            return true;
+        }
+    }
+    false
+}
+
+/// The alternatives of a graph without loops: one, or none.
+fn of_need(alloc: Global, g: &Graph) -> Result<Items<Annotated>, NoMemory>
     requires { NoHeads g.now.points }
     ensures { IfOk result (AreAlternatives g.now) }
 {
     let mut all = Items::new(alloc);
-    if let Some(a) = choice(alloc, g)? {
-        push(&mut all, a)?;
-    }
-    Ok(all)
-}
-
-/// The candidate with the rows of its entry reduced, unless they are found to contradict each other.
-fn choice(alloc: Global, g: &Graph) -> Result<Option<Annotated>, NoMemory>
-    requires { NoHeads g.now.points }
-    ensures { ChoiceIs g.now result }
-{
-    match candidate(alloc, g)? {
-        Some(a) => possible(alloc, g, reduced(alloc, g, a)?),
-        None => Ok(None),
-    }
-}
-
-/// The alternative, unless the rows of its entry are found to contradict each other.
-fn possible(alloc: Global, g: &Graph, a: Annotated) -> Result<Option<Annotated>, NoMemory>
-    requires { IsProved g.now a }
-    ensures { PossibleIs a result }
-{
-    let _start = entry_edge(g);
-    let rows = rows_at(&a.rows, 0);
-    let _most = rows.len();
-    if contradictory(alloc, rows)? {
-        Ok(None)
-    } else {
-        Ok(Some(a))
-    }
-}
-
-/// What each point needs, with the proofs of each edge.
-fn candidate(alloc: Global, g: &Graph) -> Result<Option<Annotated>, NoMemory>
-    requires { NoHeads g.now.points }
-    ensures { CandidateIs g.now result }
-{
-    let heads = no_rows(alloc, g)?;
-    match complete(alloc, g, &heads) {
-        Ok(a) => annotated(alloc, g, &a),
-        Err(CandidateFault::Past) => Ok(None),
-        Err(CandidateFault::Full) => Ok(None),
-        Err(CandidateFault::NoMemory) => Err(NoMemory),
+    match choice_of_need(alloc, g)? {
+        Some(a) => {
+            push(&mut all, a)?;
+            Ok(all)
+        }
+        None => Ok(all),
     }
 }

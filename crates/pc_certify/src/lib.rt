@@ -2,14 +2,17 @@
 #![tactic(auto)]
 
 mod annotation;
+mod choice;
 mod cover;
 mod edge;
 mod entry;
 mod inference;
 mod laws;
 mod lists;
+mod modes;
 mod origin;
 mod row;
+mod selection;
 
 pub use annotation::prove;
 pub use inference::{CANDIDATES, infer};

@@ -20,9 +20,6 @@ proved_shown rows (q ∷ removed) h = ((q.proof, h.0), proved_shown rows removed
 pub asked_found : (rows : List Linear) (goal : Linear) (system : System) (found : Option Proof) → system ≡ question rows goal → FoundIs system.premises system.goal (Ok found) → FoundIs rows goal (Ok found)
 asked_found rows goal system found is h = subst (λ (s : System). FoundIs s.premises s.goal (Ok found)) is h
 
-pub asked_shows : (rows : List Linear) (goal : Linear) (system : System) (p : Proof) → system ≡ question rows goal → Shows system.premises system.goal p → Shows rows goal p
-asked_shows rows goal system p is h = subst (λ (s : System). Shows s.premises s.goal p) is h
-
 pub asked_renewed : (rows : List Linear) (goal : Linear) (system : System) (removed : List Removed) (found : Option (List Removed)) → system ≡ question rows goal → RenewedIs system.premises removed (Ok found) → RenewedIs rows removed (Ok found)
 asked_renewed rows goal system removed found is h = subst (λ (s : System). RenewedIs s.premises removed (Ok found)) is h
 

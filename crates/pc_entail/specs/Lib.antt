@@ -1,4 +1,5 @@
 pub mod Showing
+pub mod Settled
 pub mod Reduction
 pub mod Steps
 pub mod Laws

@@ -112,11 +112,7 @@ fn over(n: Number, divisor: u128) -> Number
 
 /// The premises whose multipliers are not 0, and the multiplier of the negated goal, all over their
 /// greatest common divisor, so that they stay small.
-pub fn proof_of(
-    alloc: Global,
-    goal: Number,
-    premises: &[Number; PREMISES],
-) -> Result<Proof, NoMemory> {
+fn proof_of(alloc: Global, goal: Number, premises: &[Number; PREMISES]) -> Result<Proof, NoMemory> {
     let divisor = common_divisor(goal, premises);
     let mut parts = Parts::new(alloc);
     for i in 0..PREMISES {

@@ -1,22 +1,26 @@
-//! Whether rows show rows, by elimination.
+//! Whether rows show rows, by the search, and by elimination where the search gives up.
 
 ghost use Rattle.std.specs.Prelude.{◌≡◌, ◌≤◌, ◌+◌, ◌++◌, length, IfOk, Ok, true};
 ghost use Rattle.pc_rows.specs.Linear.{State, MeetsAll};
 ghost use Rattle.pc_elim.specs.Deciding.{DecideIs};
 ghost use Rattle.pc_entail.specs.Showing.{question, ShowIs, ShowsAllIs, ContradictoryIs};
+ghost use Rattle.pc_entail.specs.Settled.{SettledIs};
 ghost use Rattle.pc_entail.specs.Steps.{FoundIs};
 
 use pc_elim::{Answer, decide};
 use pc_rows::{NoMemory, PREMISES, Proof, ROWS, Row, Rows, System};
+use pc_simplex::{Guess, search};
 use std::alloc::Global;
 
 const _: () = prove!(ROWS <= PREMISES);
 
-/// Decides whether the rows of `a` and then of `b` show the row `r`. `Unsettled` comes only where
-/// the question is not modest.
+/// Decides whether the rows of `a` and then of `b` show the row `r`, by what the search finds, and
+/// by what elimination answers where the search gives up. `Unsettled` comes only where the search
+/// gives up and the question is not modest.
 pub fn entails(alloc: Global, a: &Rows, b: &Rows, r: &Row) -> Result<Answer, NoMemory>
     requires { length a.now + length b.now ≤ PREMISES }
-    ensures { DecideIs (question (a.now ++ b.now) r.now) result }
+    ensures exact { SettledIs (question (a.now ++ b.now) r.now) result }
+    ensures evidence { DecideIs (question (a.now ++ b.now) r.now) result }
 {
     let system = asked(alloc, a, b, r)?;
     settled(alloc, &system)
@@ -100,9 +104,15 @@ pub(crate) fn found(alloc: Global, system: &System) -> Result<Option<Proof>, NoM
     }
 }
 
-/// How a system is settled, whatever it asks: by elimination.
+/// How a system is settled, whatever it asks: by the search, and by elimination where the search
+/// gives up.
 fn settled(alloc: Global, system: &System) -> Result<Answer, NoMemory>
-    ensures { DecideIs system.now result }
+    ensures exact { SettledIs system.now result }
+    ensures evidence { DecideIs system.now result }
 {
-    decide(alloc, system)
+    match search(alloc, system)? {
+        Guess::Shown(proof) => Ok(Answer::Shown(proof)),
+        Guess::Point(point) => Ok(Answer::Point(point)),
+        Guess::GaveUp => decide(alloc, system),
+    }
 }

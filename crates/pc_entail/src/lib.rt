@@ -6,7 +6,6 @@ mod entailment;
 mod laws;
 mod reduction;
 mod renewal;
-mod strongest;
 
 pub use entailment::{contradictory, entails, shows_all};
 pub use laws::{reductions_are_equal, shown_rows_are_met, tests_are_kept};

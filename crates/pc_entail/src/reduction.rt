@@ -6,7 +6,7 @@ ghost use Rattle.pc_entail.specs.Reduction.{Reduced, Thinned, RemovesShown, AreM
 ghost use Rattle.pc_entail.specs.Steps.{rows_of, GoesIs, WithIs, StepIs};
 
 use crate::entailment::{asked, found};
-use crate::renewal::{Removed, lasting, put, renewed};
+use crate::renewal::{Removed, put, renewed};
 use pc_rows::{NoMemory, Proof, ROWS, Row, Rows};
 use sqlite_items::Items;
 use std::alloc::Global;
@@ -76,14 +76,11 @@ fn without(
 {
     let mut system = asked(alloc, kept, later, r)?;
     match found(alloc, &system)? {
-        Some(first) => {
-            let gone = lasting(alloc, &system, first)?;
-            with(
-                renewed(alloc, &mut system, kept.len(), removed, &gone)?,
-                r,
-                gone,
-            )
-        }
+        Some(gone) => with(
+            renewed(alloc, &mut system, kept.len(), removed, &gone)?,
+            r,
+            gone,
+        ),
         None => Ok(None),
     }
 }

@@ -1,12 +1,10 @@
 //! Rows that are removed, and the proofs by which the rows that stand show them.
 
 ghost use Rattle.std.specs.Prelude.{◌≡◌, ◌++◌, [], ◌∷◌, IfOk};
-ghost use Rattle.pc_rows.specs.Shows.{Shows};
 ghost use Rattle.pc_entail.specs.Steps.{FoundIs, RenewedIs};
 
 use crate::composition::composed;
 use crate::entailment::found;
-use crate::strongest::by_strongest;
 use pc_rows::{NoMemory, Proof, Row, System, shows};
 use sqlite_items::Items;
 use std::alloc::Global;
@@ -54,7 +52,7 @@ pub fn put(all: &mut Items<Removed>, r: &Row, proof: Proof) -> Result<(), NoMemo
 }
 
 /// A proof of the removed row: the old one with `gone` in the place of the premise that goes, where
-/// that shows it. It mostly does, and then nothing is eliminated.
+/// that shows it. It mostly does, and then nothing is looked for.
 fn renew(
     alloc: Global,
     system: &System,
@@ -71,7 +69,7 @@ fn renew(
     }
 }
 
-/// The guess where it shows the goal, and else what elimination finds.
+/// The guess where it shows the goal, and else what is found.
 fn checked(alloc: Global, system: &System, guess: Proof) -> Result<Option<Proof>, NoMemory>
     ensures { FoundIs system.now.premises system.now.goal result }
 {
@@ -79,27 +77,4 @@ fn checked(alloc: Global, system: &System, guess: Proof) -> Result<Option<Proof>
         return Ok(Some(guess));
     }
     found(alloc, system)
-}
-
-/// The proof by the strongest premise, where there is one, and else the proof itself.
-pub fn lasting(alloc: Global, system: &System, first: Proof) -> Result<Proof, NoMemory>
-    requires { Shows system.now.premises system.now.goal first }
-    ensures { IfOk result (λ p. Shows system.now.premises system.now.goal p) }
-{
-    match by_strongest(alloc, system)? {
-        Some(strongest) => Ok(better(system, strongest, first)),
-        None => Ok(first),
-    }
-}
-
-/// The proof by the strongest premise where it shows the goal, and else the first one.
-fn better(system: &System, strongest: Proof, first: Proof) -> Proof
-    requires { Shows system.now.premises system.now.goal first }
-    ensures { Shows system.now.premises system.now.goal result }
-{
-    if shows(system, &strongest) {
-        strongest
-    } else {
-        first
-    }
 }

@@ -1,5 +1,5 @@
 -- What a point needs depends on the rows at the targets of its edges alone, and these are at greater points or at heads.
-use Rattle.std.proofs.Common.{◌≡◌, ◌∙◌, ℕ, zero, suc, ◌<◌, ◌==◌, List, [], ◌∷◌, ◌++◌, length, sym, refl, ap, eq-eqb, cond, Bool, true, false, arith, inl, inr}
+use Rattle.std.proofs.Common.{◌≡◌, ◌∙◌, ℕ, zero, suc, ◌<◌, ◌==◌, List, [], ◌∷◌, ◌++◌, length, sym, refl, ap, eq-eqb, cond, Bool, true, false, arith, inl, inr, Some, slice_get}
 use Rattle.std.specs.Prelude.{◌⊎◌}
 use Rattle.std.specs.List.{AllByRecursion as Each}
 use Rattle.std.proofs.lemmas.Bool.Decides.{eqb_tells}
@@ -10,6 +10,7 @@ use Rattle.pc_flow.specs.Arc.{Arc}
 use Rattle.pc_flow.specs.Exact.{PointRows}
 use Rattle.pc_flow.specs.Lists.{In}
 use Rattle.pc_flow.specs.Shape.{IsHead, LeadsUp}
+use Rattle.pc_flow.proofs.Lists.{each_got, each_in}
 use Rattle.pc_lower.specs.Annotation.{is_head}
 use Rattle.pc_flow.specs.Incidence.{leaving}
 use Rattle.pc_lower.specs.Need.{demanded, gathered}
@@ -30,6 +31,10 @@ operations_alike a b rows (e ∷ edges) h =
     ap (λ (z : List Linear). edge_operations e.what rows z ++ edges_operations a (joined rows (demanded e.what z)) edges) h.0
     ∙ ap (λ (z : List Operation). edge_operations e.what rows (b e.to) ++ z) (operations_alike a b (joined rows (demanded e.what (b e.to))) edges h.1)
 
+pub each_both : {A : Type 0} (P Q : A → Type 0) (xs : List A) → Each P xs → Each Q xs → Each (λ x. P x × Q x) xs
+each_both P Q [] h k = tt
+each_both P Q (x ∷ xs) h k = ((h.0, k.0), each_both P Q xs h.1 k.1)
+
 -- the edges from a point are those edges that leave it
 pub each_leaving : (P : Arc → Type 0) (p : ℕ) (edges : List Arc) → Each P edges → Each (λ e. (e.from ≡ p) × P e) (leaving p edges)
 each_leaving P p [] h = tt
@@ -40,6 +45,11 @@ each_leaving P p (e ∷ edges) h = by (e.from == p) (eqb_tells e.from p) (each_l
     by true (inl k) more = ((k.1, h.0), more)
     by true (inr k) more = absurd (cc)
     by false k more = more
+
+-- the edge in some place of them
+pub leaving_from : (p : ℕ) (edges : List Arc) (k : ℕ) (e : Arc) → slice_get (leaving p edges) k ≡ Some e → e.from ≡ p
+leaving_from p edges k e at =
+    (each_got (λ e. (e.from ≡ p) × In e edges) (leaving p edges) k e (each_leaving (λ e. In e edges) p edges (each_in edges)) at).0
 
 pub in_leaving : (p : ℕ) (edges : List Arc) (e : Arc) → In e edges → e.from ≡ p → In e (leaving p edges)
 in_leaving p [] e m from = absurd m

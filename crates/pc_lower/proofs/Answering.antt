@@ -67,3 +67,9 @@ pub push_refused : {B : Type 0} (old new : List Linear) (r : Linear) (f : RowsFa
     length old < ROWS → PushIs old r (Err f) new → e ≡ told f → Answers whole value (Err e)
 push_refused old new r rows.Full e whole value lt h is = absurd (omega (arith, h.0))
 push_refused old new r rows.NoMemory e whole value lt h is = rw is tt
+
+-- operations that can be carried out refuse nothing but memory
+pub cannot_refuse : {A B : Type 0} (os whole : List Operation) (part : A) (value : B) (f : CandidateFault) → Each Fits os → Answers os part (Err f) → Answers whole value (Err f)
+cannot_refuse os whole part value Past fit h = absurd (no_fault Past os h fit)
+cannot_refuse os whole part value Full fit h = absurd (no_fault Full os h fit)
+cannot_refuse os whole part value NoMemory fit h = tt

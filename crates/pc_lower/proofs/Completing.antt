@@ -1,5 +1,6 @@
 -- Points that are completed one after the other.
 use Rattle.std.proofs.Common.{◌≡◌, ◌∙◌, ℕ, suc, zero, ◌≤◌, List, [], ◌++◌, length, set, sym, ap, subst, cond, Bool, true, false, arith, Err, Result, Ok, length-set}
+use Rattle.std.specs.Prelude.{IfOk}
 use Rattle.std.specs.List.{AllByRecursion as Each}
 use Rattle.pc_rows.specs.Linear.{Linear}
 use Rattle.pc_rows.specs.declared.rows.TheConstants.{ROWS}
@@ -8,18 +9,18 @@ use Rattle.pc_flow.specs.Shape.{IsGraph}
 use Rattle.pc_lower.specs.declared.fault.CandidateFault.{CandidateFault}
 use Rattle.pc_lower.specs.declared.fault.CandidateFault.TheVariants.{Past, Full, NoMemory}
 use Rattle.pc_flow.specs.Annotation.{rows_at}
-use Rattle.pc_lower.specs.Annotation.{is_head, AreFew, NoHeads}
+use Rattle.pc_lower.specs.Annotation.{is_head, AreFew, AreOver, NoHeads}
 use Rattle.pc_flow.specs.Incidence.{leaving}
 use Rattle.pc_lower.specs.Need.{needed_at, at_heads, filled, filled_below, need}
 use Rattle.pc_lower.specs.Operations.{Operation, Fits, Answers, edges_operations, operations_below, operations}
-use Rattle.pc_lower.specs.Laws.{IsNotRefused}
+use Rattle.pc_lower.specs.Laws.{IsComplete, IsNotRefused}
 use Rattle.pc_lower.specs.Tame.{IsTame}
 use Rattle.pc_lower.proofs.Agreeing.{agree_leaving, operations_alike}
 use Rattle.pc_lower.proofs.Answering.{Left, left_all, left_over, refused, no_fault}
 use Rattle.pc_lower.proofs.Filling.{agree_below}
 use Rattle.pc_lower.proofs.Meaning.{heads_long}
 use Rattle.pc_lower.proofs.Tameness.{tame_need_fits}
-use Rattle.pc_lower.proofs.Variables.{each_set}
+use Rattle.pc_lower.proofs.Variables.{each_set, need_is_complete}
 
 -- all points from number n on have what they need
 pub record Completes (g : Flow) (heads : List (List Linear)) (n : ℕ) (a : List (List Linear)) : Type 0 where
@@ -95,3 +96,8 @@ fits_not_refused os value (Err NoMemory) h fit = tt
 pub tame_not_refused : (g : Flow) (heads : List (List Linear)) (answer : Result (List (List Linear)) CandidateFault) → IsGraph g → Answers (operations g heads) (need g heads) answer →
     NoHeads g.points → IsTame g → IsNotRefused answer
 tame_not_refused g heads answer is h none tame = fits_not_refused (operations g heads) (need g heads) answer h (tame_need_fits g heads is none tame)
+
+pub complete_told : (g : Flow) (heads : List (List Linear)) (answer : Result (List (List Linear)) CandidateFault) → IsGraph g → AreOver g.variables heads → Answers (operations g heads) (need g heads) answer →
+    IfOk answer (IsComplete g)
+complete_told g heads (Ok a) is over h = subst (IsComplete g) (sym h.1) (need_is_complete g heads is over)
+complete_told g heads (Err f) is over h = tt

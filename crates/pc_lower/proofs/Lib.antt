@@ -1,4 +1,5 @@
 pub mod Answering
+pub mod Going
 pub mod Carried
 pub mod Asking
 pub mod Leaving
@@ -11,4 +12,21 @@ pub mod Paying
 pub mod Variables
 pub mod Tameness
 pub mod Completing
+pub mod Seeing
+pub mod Freshness
+pub mod Refreshing
+pub mod Ends
+pub mod Steadiness
+pub mod Lifting
+pub mod Owing
+pub mod Turning
+pub mod Rounding
+pub mod Hinting
+pub mod Over
+pub mod TameLifts
+pub mod TameTurns
+pub mod Meant
+pub mod Unlooped
+pub mod Narrowings
 pub mod Worked
+pub mod WorkedLoops

@@ -34,11 +34,11 @@ given (point ∷ points) (rows ∷ heads) zero h = ap (λ (t : Bool). cond t row
 given (point ∷ points) (rows ∷ heads) (suc p) h = given points heads p h
 
 -- no edge leaves what is no point
-none_leave : (points : List PointInfo) (variables p : ℕ) (edges : List Arc) → Each (λ e. (e.from ≡ p) × LeadsUp points variables e) edges → length points ≤ p → edges ≡ []
+pub none_leave : (points : List PointInfo) (variables p : ℕ) (edges : List Arc) → Each (λ e. (e.from ≡ p) × LeadsUp points variables e) edges → length points ≤ p → edges ≡ []
 none_leave points variables p [] h le = refl
 none_leave points variables p (e ∷ edges) h le = let from = h.0.0 in let within = h.0.1.leaves in absurd (omega arith)
 
-nothing_needed : (points : List PointInfo) (variables p : ℕ) (edges : List Arc) (a : ℕ → List Linear) → Each (LeadsUp points variables) edges → length points ≤ p → needed_at edges a p ≡ []
+pub nothing_needed : (points : List PointInfo) (variables p : ℕ) (edges : List Arc) (a : ℕ → List Linear) → Each (LeadsUp points variables) edges → length points ≤ p → needed_at edges a p ≡ []
 nothing_needed points variables p edges a leads le =
     ap (gathered a []) (none_leave points variables p (leaving p edges) (each_leaving (LeadsUp points variables) p edges leads) le)
 

@@ -1,8 +1,7 @@
 -- Without loops the need pays every edge, and each of its rows is owed.
-use Rattle.std.proofs.Common.{◌≡◌, ℕ, suc, zero, List, [], ◌∷◌, ◌++◌, sym, refl, subst, cond, Bool, true, false, arith, inl, inr, ℤ, pos, ◌≤ℤ◌}
+use Rattle.std.proofs.Common.{◌≡◌, ℕ, suc, zero, List, [], ◌∷◌, ◌++◌, sym, refl, subst, cond, Bool, true, false, inl, inr, ℤ, pos, ◌≤ℤ◌}
 use Rattle.std.specs.Prelude.{◌⊎◌, not, filter}
 use Rattle.std.specs.List.{AllByRecursion as Each}
-use Rattle.std.proofs.lemmas.Int.{ints}
 use Rattle.pc_rows.specs.Linear.{Linear, Meets, MeetsAll}
 use Rattle.pc_rows.specs.Joins.{is_covered, with_row, joined}
 use Rattle.pc_rows.proofs.Carrying.{substitution_is_exact}

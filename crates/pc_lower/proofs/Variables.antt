@@ -1,5 +1,5 @@
 -- Which variables the rows of a need have.
-use Rattle.std.proofs.Common.{◌≡◌, Some, ℕ, suc, zero, ◌≤◌, List, [], ◌∷◌, length, set, sym, refl, subst, cond, Bool, true, false, arith}
+use Rattle.std.proofs.Common.{◌≡◌, ℕ, suc, zero, ◌≤◌, List, [], ◌∷◌, length, set, sym, refl, subst, cond, Bool, true, false, arith}
 use Rattle.std.specs.Prelude.{not, filter, slice_get, IfSome}
 use Rattle.std.specs.List.{AllByRecursion as Each}
 use Rattle.pc_rows.specs.Linear.{Linear, IsOver, first_of}
@@ -59,7 +59,7 @@ entered_over n (r ∷ rows) = (first_is_over n r, entered_over n rows)
 fewer_over : (m n : ℕ) (r : Linear) → m ≤ n → IsOver m r → IsOver n r
 fewer_over m n r le h v far = h v (omega arith)
 
-back_over : (n : ℕ) (w : What) (rows : List Linear) → WhatIsOver n w → Each (IsOver n) rows → Each (IsOver n) (back_all w rows)
+pub back_over : (n : ℕ) (w : What) (rows : List Linear) → WhatIsOver n w → Each (IsOver n) rows → Each (IsOver n) (back_all w rows)
 back_over n w [] over h = tt
 back_over n (Enter params) (r ∷ rows) over h = (fewer_over params n (first_of params r) over (first_is_over params r), back_over n (Enter params) rows over h.1)
 back_over n (Test own) (r ∷ rows) over h = (h.0, back_over n (Test own) rows over h.1)
@@ -73,7 +73,7 @@ demanded_over n (Test own) rows over h = each_filter (IsOver n) (λ r. not (is_c
 demanded_over n (Set x form lo hi) rows over h = back_over n (Set x form lo hi) rows over h
 demanded_over n (Check own) rows over h = each_join (IsOver n) own rows over h
 
-heads_over : (n : ℕ) (points : List PointInfo) (heads : List (List Linear)) → AreOver n heads → AreOver n (at_heads points heads)
+pub heads_over : (n : ℕ) (points : List PointInfo) (heads : List (List Linear)) → AreOver n heads → AreOver n (at_heads points heads)
 heads_over n [] heads h = tt
 heads_over n (point ∷ points) [] h = (tt, heads_over n points [] tt)
 heads_over n (point ∷ points) (rows ∷ heads) h = (by point.head, heads_over n points heads h.1)

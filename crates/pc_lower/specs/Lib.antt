@@ -2,5 +2,12 @@ pub mod Faults
 pub mod Annotation
 pub mod Need
 pub mod Operations
+pub mod Unchecked
+pub mod Candidate
+pub mod Course
+pub mod Fresh
 pub mod Tame
+pub mod TameCourse
+pub mod Turns
+pub mod Narrowing
 pub mod Laws

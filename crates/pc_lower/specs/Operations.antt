@@ -1,7 +1,7 @@
--- The operations by which a need is computed, in order, and the first that cannot be carried out.
+-- The operations by which annotations are computed, in order, and the first that cannot be carried out.
 use Rattle.std.specs.Prelude.{◌≡◌, ◌≤◌, ℕ, zero, suc, if◌then◌else◌, List, [], ◌∷◌, ◌++◌, ◌⊎◌, map, length, Result, Ok, Err}
 use Rattle.std.specs.List.{AllByRecursion as Each}
-use Rattle.pc_rows.specs.Linear.{Linear}
+use Rattle.pc_rows.specs.Linear.{Linear, IsInRange, difference_of, negation}
 use Rattle.pc_rows.specs.Joins.{joined}
 use Rattle.pc_rows.specs.declared.rows.TheConstants.{ROWS}
 use Rattle.pc_flow.specs.declared.what.What.{What}
@@ -16,20 +16,26 @@ use Rattle.pc_lower.specs.Annotation.{is_head}
 use Rattle.pc_flow.specs.Incidence.{leaving}
 use Rattle.pc_lower.specs.Need.{demanded, need}
 
--- a row carried back over an edge, or two lists of rows joined
+-- a row carried back over an edge, two lists of rows joined, a row minus another, or the negation of a row
 pub data Operation : Type 0 where
   Carries : What → Linear → Operation
   Joins : List Linear → List Linear → Operation
+  Subtracts : Linear → Linear → Operation
+  Negates : Linear → Operation
 
 -- it can be carried out: its numbers are in range, or its rows are not too many
 abbrev pub Fits : Operation → Type 0
 Fits (Carries w r) = BackFits w r
 Fits (Joins a b) = length (joined a b) ≤ ROWS
+Fits (Subtracts a b) = IsInRange (difference_of a b)
+Fits (Negates a) = IsInRange (negation a)
 
 -- what is told where it cannot
 abbrev pub fault_of : Operation → CandidateFault
 fault_of (Carries w r) = Past
 fault_of (Joins a b) = Full
+fault_of (Subtracts a b) = Past
+fault_of (Negates a) = Past
 
 -- the fault is that of the first operation that cannot be carried out
 abbrev pub IsFirstFault : CandidateFault → List Operation → Type 0
@@ -42,6 +48,16 @@ Answers os value (Ok x) = Each Fits os × (x ≡ value)
 Answers os value (Err Past) = IsFirstFault Past os
 Answers os value (Err Full) = IsFirstFault Full os
 Answers os value (Err NoMemory) = Unit {0}
+
+-- steps one after the other, over a list
+abbrev pub after_all : {S X : Type 0} → (S → X → S) → S → List X → S
+after_all step s [] = s
+after_all step s (x ∷ xs) = after_all step (step s x) xs
+
+-- the operations of these steps, where `os` are those of one
+abbrev pub operations_of_all : {S X : Type 0} → (S → X → S) → (S → X → List Operation) → S → List X → List Operation
+operations_of_all step os s [] = []
+operations_of_all step os s (x ∷ xs) = os s x ++ operations_of_all step os (step s x) xs
 
 -- each of the rows at the edge's target is carried back
 abbrev pub carries : What → List Linear → List Operation

@@ -26,12 +26,23 @@ pub fn complete(alloc: Global, g: &Graph, heads: &Annotation) -> Result<Annotati
     ensures complete { IfOk result (IsComplete g.now) }
     ensures tame { NoHeads g.now.points → IsTame g.now → IsNotRefused result }
 {
+    // what a graph keeps
+    let _points = g.points();
+    completed(alloc, g, heads)
+}
+
+/// The same, whatever variables the rows have.
+pub fn completed(alloc: Global, g: &Graph, heads: &Annotation) -> Result<Annotation, CandidateFault>
+    requires { length heads.now ≡ length g.now.points }
+    ensures need { Answers (operations g.now heads.now) (need g.now heads.now) result }
+    ensures few { IfOk result AreFew }
+{
     let mut rows = at_heads(alloc, g, heads)?;
     let mut p = g.points();
     while 0 < p {
         p -= 1;
         if !g.is_head(p) {
-            let needed = needed_at(alloc, g, p, &rows)?;
+            let needed = needed_at(alloc, g, true, p, &rows)?;
             rows.set(p as usize, needed);
         }
     }

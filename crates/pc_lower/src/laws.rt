@@ -1,5 +1,7 @@
-//! What needs promise, as contracts of functions that do nothing.
+//! What needs and candidates promise, as contracts of functions that do nothing.
 
+ghost use Rattle.pc_lower.specs.TameCourse.{TameCandidateFits, CandidatesAreNeeds};
+ghost use Rattle.pc_lower.specs.Turns.{CandidateIsMeant};
 ghost use Rattle.pc_lower.specs.Laws.{NeedIsMeant, AnnotationCovers, NeedIsComplete, NeedIsPaid, NeedIsOwed, NeedIsFree, TameNeedFits};
 
 /// The need is the one annotation whose heads have the given rows, and whose other points have the rows that the edges
@@ -33,4 +35,20 @@ pub fn need_is_free()
 /// Without loops and with tame numbers no operation leaves the range or has a row too many.
 pub fn tame_need_fits()
     ensures { TameNeedFits }
+{}
+
+/// The candidate of a mode is the one annotation that its rounds make: turn by turn, each head gets what its edges owe.
+pub fn candidate_is_meant()
+    ensures { CandidateIsMeant }
+{}
+
+/// Where the rows of each turn, of each steady test and of the candidate are tame, no operation leaves the range or has a
+/// row too many.
+pub fn tame_candidate_fits()
+    ensures { TameCandidateFits }
+{}
+
+/// Without loops the candidate of every mode is the need, and it is tame for a mode exactly where the graph is tame.
+pub fn candidates_are_needs()
+    ensures { CandidatesAreNeeds }
 {}

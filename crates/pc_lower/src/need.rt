@@ -8,6 +8,7 @@ ghost use Rattle.pc_flow.specs.Annotation.{rows_at};
 ghost use Rattle.pc_flow.specs.Incidence.{leaving};
 ghost use Rattle.pc_lower.specs.Need.{demanded, needed_at};
 ghost use Rattle.pc_lower.specs.Operations.{Joins, Answers, carries, edge_operations, edges_operations};
+ghost use Rattle.pc_lower.specs.Unchecked.{seen, seen_arc};
 
 use crate::carry::{carried, uncovered};
 use crate::fault::CandidateFault;
@@ -15,23 +16,25 @@ use pc_flow::{Annotation, Edge, Graph, What, rows_at};
 use pc_rows::{Rows, join};
 use std::alloc::Global;
 
-/// The rows that a point needs which is no head: the join of what the edges from it demand, in order.
+/// The rows that a point needs which is no head: the join of what the edges from it demand, in order. Assertions ask for
+/// their own rows only where they are `asserted`.
 pub fn needed_at(
     alloc: Global,
     g: &Graph,
+    asserted: bool,
     p: u32,
     rows: &Annotation,
 ) -> Result<Rows, CandidateFault>
     requires point { p < length g.now.points }
     requires long { length rows.now ≡ length g.now.points }
-    ensures needed { Answers (edges_operations (rows_at rows.now) [] (leaving p g.now.edges)) (needed_at g.now.edges (rows_at rows.now) p) result }
+    ensures needed { let edges = (seen asserted g.now).edges in Answers (edges_operations (rows_at rows.now) [] (leaving p edges)) (needed_at edges (rows_at rows.now) p) result }
     ensures few { IfOk result (λ needed. length needed ≤ ROWS) }
 {
     let mut needed = Rows::new(alloc);
     let numbers = g.leaving(p);
     for k in 0..numbers.len() {
         let e = g.edge(numbers[k]);
-        needed = with_edge(alloc, &needed, e, rows_at(rows, e.to))?;
+        needed = with_edge(alloc, asserted, &needed, e, rows_at(rows, e.to))?;
     }
     // its length tells that the list is within its limit
     let _few = needed.len();
@@ -39,12 +42,24 @@ pub fn needed_at(
 }
 
 /// The rows of a point so far, joined with what an edge from it demands for the rows at its target.
-fn with_edge(alloc: Global, rows: &Rows, e: &Edge, target: &Rows) -> Result<Rows, CandidateFault>
-    ensures { Answers (edge_operations e.now.what rows.now target.now) (joined rows.now (demanded e.now.what target.now)) result }
+fn with_edge(
+    alloc: Global,
+    asserted: bool,
+    rows: &Rows,
+    e: &Edge,
+    target: &Rows,
+) -> Result<Rows, CandidateFault>
+    ensures { let what = (seen_arc asserted e.now).what in Answers (edge_operations what rows.now target.now) (joined rows.now (demanded what target.now)) result }
 {
     match &e.what {
         What::Test(own) => joined(rows, &uncovered(alloc, own, target)?),
-        What::Check(own) => joined(&joined(rows, own)?, target),
+        What::Check(own) => {
+            if asserted {
+                joined(&joined(rows, own)?, target)
+            } else {
+                joined(rows, target)
+            }
+        }
         What::Enter { .. } => with_carried(alloc, rows, e, target),
         What::Set { .. } => with_carried(alloc, rows, e, target),
     }
@@ -58,7 +73,7 @@ fn with_carried(alloc: Global, rows: &Rows, e: &Edge, target: &Rows) -> Result<R
 }
 
 /// The join of two lists.
-fn joined(a: &Rows, b: &Rows) -> Result<Rows, CandidateFault>
+pub fn joined(a: &Rows, b: &Rows) -> Result<Rows, CandidateFault>
     ensures { Answers (Joins a.now b.now ∷ []) (joined a.now b.now) result }
 {
     Ok(join(a, b)?)

@@ -1,5 +1,7 @@
 pub mod Counting
 pub mod Places
+pub mod TermLists
+pub mod Multiples
 pub mod Nothing
 pub mod Picking
 pub mod Ending

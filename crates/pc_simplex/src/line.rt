@@ -112,8 +112,9 @@ fn coefficients(r: &Row) -> [Number; VARIABLES]
     ensures { result ≡ r.now.coefficients }
 {
     let mut all = [Number::new(0); VARIABLES];
-    for v in 0..VARIABLES {
-        all[v] = Number::new(r.coefficient(v as u32));
+    for k in 0..r.terms() {
+        let (v, c) = r.term(k);
+        all[v as usize] = Number::new(c);
     }
     all
 }

@@ -10,6 +10,8 @@ use pc_rows::Past;
 /// The most pivots of a search.
 pub const PIVOTS: usize = 400;
 
+const _: () = prove!(PIVOTS == 400);
+
 /// How the turns end.
 #[derive(Clone, Copy)]
 pub enum End {

@@ -1,10 +1,11 @@
 //! What a pivot makes of the lines of a table.
 
-ghost use Rattle.std.specs.Prelude.{◌≡◌, ◌≢◌, ◌<◌, ◌≤ℤ◌, ◌*ℤ◌, ◌-ℤ◌, int_div, int_rem, pos, true, OkIff, OnOk, length};
+ghost use Rattle.std.specs.Prelude.{◌≡◌, ◌≢◌, ◌<◌, ◌≤ℤ◌, ◌*ℤ◌, ◌-ℤ◌, pos, true, OkIff, OnOk, length};
 ghost use Rattle.pc_rows.specs.Linear.{InRange};
 ghost use Rattle.pc_simplex.specs.Pivoting.{entry, is_up, signed, cell, cell_fits, number_after, number_fits, numbers_after, numbers_fit, other_after, other_fits, own_after, own_number, own_numbers, line_after, line_fits, ChangeIs};
 
 use super::Line;
+use crate::divisor::Divisor;
 use crate::label::Label;
 use pc_rows::{Number, Past, VARIABLES};
 use std::marker::Model;
@@ -13,7 +14,7 @@ use std::marker::Model;
 /// number that is exchanged is kept beside them, and whether it is above 0.
 #[derive(Drop)]
 pub struct Pivot {
-    denominator: Number,
+    divisor: Divisor,
     column: usize,
     line: Line,
     entry: Number,
@@ -27,9 +28,9 @@ impl Model for Pivot {
 
     ghost Value = { Kept };
 
-    ghost view = { λ p. record { denominator = p.denominator; column = p.column; line = p.line } };
+    ghost view = { λ p. record { denominator = p.divisor; column = p.column; line = p.line } };
 
-    ghost invariant = { λ p. (pos 1 ≤ℤ p.denominator) × (p.column < VARIABLES) × (length p.line.numbers ≡ VARIABLES) × (p.entry ≡ slice_index_or p.line.numbers p.column (pos 0)) × (p.up ≡ int_lt (pos 0) p.entry) };
+    ghost invariant = { λ p. (p.column < VARIABLES) × (length p.line.numbers ≡ VARIABLES) × (p.entry ≡ slice_index_or p.line.numbers p.column (pos 0)) × (p.up ≡ int_lt (pos 0) p.entry) };
 }
 
 impl Pivot {
@@ -41,7 +42,7 @@ impl Pivot {
     {
         let entry = line.number(column);
         Pivot {
-            denominator,
+            divisor: Divisor::new(denominator),
             column,
             line: *line,
             entry,
@@ -93,7 +94,7 @@ impl Pivot {
         ensures { result ≡ own_number self.now here x }
     {
         if here {
-            signed(self.up, self.denominator)
+            signed(self.up, self.divisor.get())
         } else {
             signed(self.up, x).negated()
         }
@@ -140,7 +141,7 @@ impl Pivot {
             return Ok(x);
         }
         let difference = difference(self.entry, x, factor, y)?;
-        Ok(signed(self.up, quotient(difference, self.denominator)?))
+        Ok(signed(self.up, self.divisor.divide(difference)?))
     }
 }
 
@@ -148,29 +149,6 @@ fn difference(a: Number, x: Number, b: Number, y: Number) -> Result<Number, Past
     ensures { OkIff result (InRange (a *ℤ x) × InRange (b *ℤ y) × InRange (a *ℤ x -ℤ b *ℤ y)) (a *ℤ x -ℤ b *ℤ y) }
 {
     a.times(x)?.minus(b.times(y)?)
-}
-
-/// The quotient. `Past` exactly where it is not whole or not in range.
-fn quotient(n: Number, d: Number) -> Result<Number, Past>
-    requires { pos 1 ≤ℤ d }
-    ensures { OkIff result ((int_rem n d ≡ pos 0) × InRange (int_div n d)) (int_div n d) }
-{
-    // most denominators are 1, and a division of wide numbers is slow
-    if d == Number::new(1) {
-        let _in_range = n.get();
-        return Ok(n);
-    }
-    divided(n, d)
-}
-
-fn divided(n: Number, d: Number) -> Result<Number, Past>
-    requires { pos 1 ≤ℤ d }
-    ensures { OkIff result ((int_rem n d ≡ pos 0) × InRange (int_div n d)) (int_div n d) }
-{
-    if n.get() % d.get() != 0 {
-        return Err(Past);
-    }
-    Ok(Number::new(n.get() / d.get()))
 }
 
 fn signed(up: bool, n: Number) -> Number

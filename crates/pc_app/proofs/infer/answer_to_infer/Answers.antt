@@ -2,7 +2,7 @@ use Rattle.std.proofs.lemmas.Result.{err_from_is_err_and}
 use Rattle.pc_app.specs.Files.OnFile.{IsRead}
 use Rattle.pc_app.specs.Kinds.{source_kind}
 use Rattle.pc_app.specs.Silences.{IsLost}
-use Rattle.pc_app.specs.Answers.{AnalysisAnswers, InferAnswers}
+use Rattle.pc_app.specs.Answers.{InferAnswers}
 use Rattle.pc_app.proofs.OrderLemmas.{file_stops}
 use Rattle.pc_app.proofs.infer.answer_to_infer.Goals as goal
 
@@ -11,7 +11,7 @@ returns-in_err-program-clause-answered g c =
     let p = err_from_is_err_and c.from_residual.result c.from_residual.ensures.1 in
     let held = g.S.Store.holding c.args.store.now c.args.source.now in
     let lost = IsLost held (g.S.Store.faults c.args.store.now) (g.S.Store.faults c.source_in.new.store) in
-    rw (p.1, p.2) (file_stops source_kind (AnalysisAnswers InferAnswers) held lost lost (λ l. l) c.in_err-program.field-0.0 c.in_err-program.ensures.answered)
+    rw (p.1, p.2) (file_stops source_kind InferAnswers held lost lost (λ l. l) c.in_err-program.field-0.0 c.in_err-program.ensures.answered)
 
 pub returns-clause-answered : goal.returns-clause-answered
 returns-clause-answered g c = IsRead c.in_ok-program.program c.in_ok-program.ensures.answered c.in_ok-infer_program.ensures

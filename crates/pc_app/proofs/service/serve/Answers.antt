@@ -4,6 +4,9 @@ use Rattle.pc_app.proofs.service.serve.Goals as goal
 pub returns-clause-exact : goal.returns-clause-exact
 returns-clause-exact g c = ends.exact _ _ _ _ _ _ _ _ _ c.respond.ensures.ends
 
+pub returns-clause-covering : goal.returns-clause-covering
+returns-clause-covering g c = ends.covering _ _ _ _ _ _ _ _ _ c.respond.ensures.ends
+
 pub returns-clause-sound : goal.returns-clause-sound
 returns-clause-sound g c = ends.sound _ _ _ _ _ _ _ _ _ c.respond.ensures.ends
 

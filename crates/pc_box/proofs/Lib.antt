@@ -1,0 +1,12 @@
+pub mod Keeping
+pub mod Quotients
+pub mod Ends
+pub mod Tables
+pub mod Walks
+pub mod Sums
+pub mod Cuts
+pub mod Steps
+pub mod Widening
+pub mod Telling
+pub mod Viewing
+pub mod Answering

@@ -1,0 +1,5 @@
+pub mod Options
+pub mod Places
+pub mod Picking
+pub mod Folding
+pub mod Heads
