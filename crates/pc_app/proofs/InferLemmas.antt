@@ -3,7 +3,7 @@ use Rattle.std.proofs.Common.{◌≡◌, ◌≤◌, ℕ, suc, ap, subst, ◌∙�
 use Rattle.std.specs.Prelude.{◌⊎◌, ◌&&◌, nat_le, int_le}
 use Rattle.std.specs.List.{AllByRecursion}
 use Rattle.std.proofs.lemmas.Int.{ints}
-use Rattle.std.proofs.lemmas.Bool.{leb-true}
+use Rattle.std.proofs.lemmas.Bool.{and_parts, leb-true}
 use Rattle.std.proofs.lemmas.List.Elements.{All-from_recursion}
 use Rattle.pc_rows.specs.Linear.{Linear, State, value, Meets, MeetsAll, MeetsSome, IsOver}
 use Rattle.pc_rows.specs.declared.row.TheConstants.{VARIABLES}
@@ -12,7 +12,6 @@ use Rattle.pc_rows.specs.declared.system.TheConstants.{PREMISES}
 use Rattle.pc_language.specs.declared.limits.TheConstants.{EDGES}
 use Rattle.pc_program.specs.declared.program.Program.{Program}
 use Rattle.pc_program.specs.Sane.{is_sane, sane_stmts, edges_of}
-use Rattle.pc_program.proofs.Results.{and_is}
 use Rattle.pc_graph.specs.Lowering.{graph}
 use Rattle.pc_graph.proofs.LoopFree.{loop_free_graphs}
 use Rattle.pc_graph.proofs.StraightLoops.{straight_is_loop_free}
@@ -42,7 +41,7 @@ use Rattle.pc_app.specs.Inferred.{IsCondition, HasViolation, IsNeeded, IsTameAnd
 few_params : (p : Program) → is_sane p.names p.body ≡ true → p.names.params ≤ length p.names.names
 few_params p h =
     let n = length p.names.names in
-    leb-true p.names.params n (and_is (nat_le p.names.params n) (nat_le n VARIABLES && (sane_stmts n p.body && nat_le (edges_of p.body) EDGES)) h).0
+    leb-true p.names.params n (and_parts (nat_le p.names.params n) (nat_le n VARIABLES && (sane_stmts n p.body && nat_le (edges_of p.body) EDGES)) h).0
 
 -- ---- facts of each item
 

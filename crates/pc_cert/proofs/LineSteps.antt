@@ -6,6 +6,7 @@ use Rattle.std.proofs.Math.Bool.{and-true, and-false}
 use Rattle.pc_rows.specs.declared.proof.Part.{Part}
 use Rattle.pc_rows.specs.declared.system.TheConstants.{PREMISES}
 use Rattle.pc_rows.specs.Linear.{Linear, in_range, is_zero, with_coefficient}
+use Rattle.pc_rows.proofs.PartLists.{part}
 use Rattle.pc_text.specs.Bytes.{Bytes}
 use Rattle.pc_text.specs.Digits.{natural_of}
 use Rattle.pc_text.specs.Numerals.{integer_of}
@@ -40,9 +41,6 @@ below_capped least n = grind (arith, nat_tests)
 
 below_same : (least n : ℕ) → (leb least n && ltb n PREMISES) ≡ true → min n (2 ^ 32 - 1) ≡ n
 below_same least n h = grind (arith, nat_tests)
-
-abbrev pub part : ℕ → ℤ → Part
-part i z = record { index = i; multiplier = z }
 
 -- the index was capped, where it has no part
 part_by : (below u : Bool) (capped i : ℕ) (z : ℤ) → (below ≡ true → capped ≡ i) → cond (below && u) (Some (part capped z)) None ≡ cond (below && u) (Some (part i z)) None

@@ -3,17 +3,12 @@ use Rattle.std.proofs.Common.{◌≡◌, ◌∙◌, refl, ap, sym, Bool, true, f
 use Rattle.std.specs.Prelude.{bytes_eq, codes}
 use Rattle.std.proofs.lemmas.Bool.{and_parts}
 use Rattle.std.proofs.lemmas.Slice.Eq.{bytes_eq-Decides}
+use Rattle.pc_rows.proofs.Tests.{same_truth}
 use Rattle.pc_text.specs.Bytes.{Bytes}
 use Rattle.pc_text.specs.Words.{Words, words, is_empty}
 use Rattle.pc_text.proofs.NumeralWords.{empty_is}
 use Rattle.pc_text.proofs.WordLists.{joined, line_of_words}
 use Rattle.pc_cert.specs.Forms.{is_named, is_word}
-
-pub same_tests : (s t : Bool) → (s ≡ true → t ≡ true) → (t ≡ true → s ≡ true) → s ≡ t
-same_tests true true h g = refl
-same_tests true false h g = sym (h refl)
-same_tests false true h g = g refl
-same_tests false false h g = refl
 
 pub named_is : (name : Bytes) (p : Words → Bool) (ws : Words) → is_named name p ws ≡ true → (rest : Words) × (ws ≡ name ∷ rest) × (p rest ≡ true)
 named_is name p [] h = absurd (cc)
@@ -27,7 +22,7 @@ word_is name ws h = let is = named_is name is_empty ws h in is.1 ∙ ap (λ z. n
 -- a line is a word without spaces exactly where it has this word alone
 word_test : (name line : Bytes) → words name ≡ name ∷ [] → joined (name ∷ []) ≡ name → is_word name (name ∷ []) ≡ true → bytes_eq line name ≡ is_word name (words line)
 word_test name line alone join is =
-    same_tests (bytes_eq line name) (is_word name (words line))
+    same_truth (bytes_eq line name) (is_word name (words line))
     (λ h. ap (λ z. is_word name (words z)) ((bytes_eq-Decides line name).0 h) ∙ ap (is_word name) alone ∙ is)
     (λ h. let same : line ≡ name = sym (line_of_words line) ∙ ap joined (word_is name (words line) h) ∙ join in (bytes_eq-Decides line name).1 same)
 
@@ -42,6 +37,6 @@ version_words ws h = let is = named_is (codes "precond") (is_word (codes "1")) w
 
 pub version_test : (line : Bytes) → bytes_eq line (codes "precond 1") ≡ is_named (codes "precond") (is_word (codes "1")) (words line)
 version_test line =
-    same_tests (bytes_eq line (codes "precond 1")) (is_named (codes "precond") (is_word (codes "1")) (words line))
+    same_truth (bytes_eq line (codes "precond 1")) (is_named (codes "precond") (is_word (codes "1")) (words line))
     (λ h. ap (λ z. is_named (codes "precond") (is_word (codes "1")) (words z)) ((bytes_eq-Decides line (codes "precond 1")).0 h))
     (λ h. (bytes_eq-Decides line (codes "precond 1")).1 (sym (line_of_words line) ∙ ap joined (version_words (words line) h)))

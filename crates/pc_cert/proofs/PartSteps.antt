@@ -8,6 +8,7 @@ use Rattle.pc_rows.specs.declared.system.TheConstants.{PREMISES}
 use Rattle.pc_rows.specs.Linear.{in_range, is_zero}
 use Rattle.pc_rows.specs.Evidence.{IsAbove}
 use Rattle.pc_rows.proofs.Joining.{each_join}
+use Rattle.pc_rows.proofs.Rising.{above_more}
 use Rattle.pc_text.specs.Bytes.{Bytes}
 use Rattle.pc_text.specs.Digits.{natural_of}
 use Rattle.pc_text.specs.Numerals.{integer_of}
@@ -16,7 +17,7 @@ use Rattle.pc_text.specs.Words.{Words, is_count, is_numeral}
 use Rattle.pc_cert.specs.Forms.{are_pairs}
 use Rattle.pc_cert.specs.Faults.{part_keeps}
 use Rattle.pc_cert.specs.LineReaders.{broken, next_part, parts_from}
-use Rattle.pc_cert.proofs.LineSteps.{part}
+use Rattle.pc_rows.proofs.PartLists.{part}
 
 pub not_zero : (z : ℤ) → not (is_zero z) ≡ true → z ≢ pos 0
 not_zero (pos n) h e = let zero : is_zero (pos n) ≡ true = ap is_zero e in cc
@@ -72,11 +73,6 @@ pub next_fault : (n least : ℕ) (old : Words) (ps : List Part) (f : CertFault) 
 next_fault n least [] ps f e = absurd (cc)
 next_fault n least (i ∷ []) ps f e = let same : broken false n ≡ f = cc in ap Err same
 next_fault n least (i ∷ m ∷ ws) ps f e = fault_by n least i m ws ps f (is_count i && is_numeral m) (part_keeps least i m) refl refl e
-
--- indices below a number are below each greater one
-pub above_more : (m n : ℕ) (ps : List Part) → m ≤ n → IsAbove m ps → IsAbove n ps
-above_more m n [] h g = tt
-above_more m n (p ∷ ps) h g = (omega (arith, g.0), above_more m n ps h g.1)
 
 pub above_next : (least : ℕ) (ps new : List Part) (p : Part) → least ≤ p.index → IsAbove least ps → new ≡ ps ++ p ∷ [] → IsAbove (p.index + 1) new
 above_next least ps new p h g e =

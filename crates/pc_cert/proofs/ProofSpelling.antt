@@ -23,7 +23,7 @@ use Rattle.pc_cert.proofs.PartSteps.{not_zero}
 use Rattle.pc_text.proofs.PlainWords.{IsPlain, numeral_plain}
 use Rattle.pc_cert.proofs.Spelled.{IsSpelled}
 use Rattle.pc_cert.proofs.LineLaws.{proof_with}
-use Rattle.pc_cert.proofs.LineSteps.{part}
+use Rattle.pc_rows.proofs.PartLists.{part}
 
 abbrev pub part_line : Part → Words
 part_line p = numeral (pos p.index) ∷ numeral p.multiplier ∷ []

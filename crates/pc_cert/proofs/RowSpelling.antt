@@ -9,6 +9,7 @@ use Rattle.pc_rows.specs.declared.row.TheConstants.{VARIABLES}
 use Rattle.pc_rows.specs.Linear.{Linear, AllInRange, in_range, IsOver, IsRow}
 use Rattle.pc_text.specs.Numerals.{numeral, integer_of}
 use Rattle.pc_text.proofs.NumeralTexts.{integer_numeral}
+use Rattle.pc_rows.proofs.Algebra.{get_or-zeros}
 use Rattle.pc_rows.proofs.Ranges.{in_all, all_in}
 use Rattle.pc_text.specs.Words.{Words, is_numeral}
 use Rattle.pc_cert.specs.Forms.{are_numerals}
@@ -55,13 +56,8 @@ range_of_both (z ∷ zs) ys h g = (h.0, range_of_both zs ys h.1 g)
 
 -- ---- coefficients of the first variables, and zeros
 
-zeros_at : (n k : ℕ) → get_or (replicate n (pos 0)) k (pos 0) ≡ pos 0
-zeros_at zero k = refl
-zeros_at (suc n) zero = refl
-zeros_at (suc n) (suc k) = zeros_at n k
-
 zero_behind : (zs : List ℤ) (n k : ℕ) → length zs ≤ k → get_or (zs ++ replicate n (pos 0)) k (pos 0) ≡ pos 0
-zero_behind [] n k h = zeros_at n k
+zero_behind [] n k h = get_or-zeros n k
 zero_behind (z ∷ zs) n zero h = absurd (omega arith)
 zero_behind (z ∷ zs) n (suc k) h = zero_behind zs n k (omega arith)
 

@@ -109,15 +109,6 @@ pub numbered_step : {A : Type 0} (lines : ℕ → A → List Words) (xs : List A
 numbered_step lines xs i x old mid new h e f g =
     grown old mid new (lines_text (numbered lines 0 (take i xs))) (lines_text (lines i x)) f g ∙ ap (λ z. old ++ z) (sym (numbered_more lines xs i x h e))
 
-flat_more : {A : Type 0} (lines : A → List Words) (xs : List A) (i : ℕ) (x : A) → i < length xs → get_or xs i x ≡ x →
-    lines_text (flat_map lines (take (i + 1) xs)) ≡ lines_text (flat_map lines (take i xs)) ++ lines_text (lines x)
-flat_more lines xs i x h e =
-    ap (λ ys. lines_text (flat_map lines ys)) (take_more xs i x h)
-    ∙ ap lines_text (flat_map-append lines (take i xs) (get_or xs i x ∷ []))
-    ∙ lines_on (flat_map lines (take i xs)) (lines (get_or xs i x) ++ [])
-    ∙ ap (λ ls. lines_text (flat_map lines (take i xs)) ++ lines_text ls) (append-nil (lines (get_or xs i x)))
-    ∙ ap (λ y. lines_text (flat_map lines (take i xs)) ++ lines_text (lines y)) e
-
 -- what holds of one item more
 pub all_more : {A : Type 0} (P : A → Type 0) (xs : List A) (i : ℕ) (x : A) → i < length xs → get_or xs i x ≡ x → AllByRecursion P (take i xs) → P x → AllByRecursion P (take (i + 1) xs)
 all_more P xs i x h e all one =

@@ -1,6 +1,5 @@
 -- Where numbers are tame all that is computed for the proofs of rows is in range.
 use Rattle.std.proofs.Common.{◌≡◌, ℕ, zero, suc, ◌+◌, ◌*◌, ℤ, pos, negsuc, ◌+ℤ◌, ◌*ℤ◌, neg_ℤ, List, [], ◌∷◌, set, subst, arith, Bool, true, false, cond, Option, Some, ◌≤◌, inl, inr}
-use Rattle.std.specs.Prelude.{replicate}
 use Rattle.std.specs.List.{AllByRecursion, find}
 use Rattle.std.proofs.lemmas.Int.{ints}
 use Rattle.pc_rows.specs.Linear.{Linear, coefficient, is_zero, add_lists, scale_list, negate_list, zero_from, negation}
@@ -10,7 +9,7 @@ use Rattle.pc_rows.specs.Modest.{IsModest}
 use Rattle.pc_rows.specs.Substitution.{carried, never_row, least_product, needs_open_end}
 use Rattle.pc_rows.specs.Laws.{EndIsWithin}
 use Rattle.pc_rows.specs.declared.row.TheConstants.{VARIABLES}
-use Rattle.pc_rows.proofs.Bounding.{product_within, sum_within, opposite_within, least_within, within_in_range, more_within, scale_within, add_within, negate_within, at_within, set_within, small_substitution_fits}
+use Rattle.pc_rows.proofs.Bounding.{product_within, sum_within, opposite_within, least_within, within_in_range, more_within, scale_within, add_within, negate_within, at_within, set_within, small_substitution_fits, zeros_within as no_terms_within}
 use Rattle.pc_language.specs.Ends.{end_of}
 use Rattle.pc_elim.proofs.SmallRows.{row_more, row_in_range}
 use Rattle.pc_flow.specs.declared.what.What.{What}
@@ -45,10 +44,6 @@ carried_within m r form x lo hi hr hf hl hh =
           (add_within (m * m) m (scale_list c form.coefficients) (set r.coefficients x (pos 0)) (scale_within m m c form.coefficients hc hf.coefficients)
           (set_within m r.coefficients x (pos 0) hr.coefficients zero_is_within));
     }
-
-no_terms_within : (m n : ℕ) → AreWithin m (replicate n (pos 0))
-no_terms_within m zero = tt
-no_terms_within m (suc n) = (omega (arith, ints), no_terms_within m n)
 
 never_within : (m : ℕ) → 1 ≤ m → Within m never_row
 never_within m one = record { constant = omega (arith, ints); coefficients = no_terms_within m VARIABLES }

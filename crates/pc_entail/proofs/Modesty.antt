@@ -1,12 +1,14 @@
 -- Of rows that are modest together, each question that arises is modest.
-use Rattle.std.proofs.Common.{◌≡◌, ℕ, zero, suc, ◌+◌, ◌≤◌, ℤ, pos, neg_ℤ, get_or, refl, arith, List, [], ◌∷◌, ◌++◌, length, length-append, Bool, true, false, cond, inl, inr}
-use Rattle.std.specs.Prelude.{◌||◌, not}
+use Rattle.std.proofs.Common.{◌≡◌, ℕ, zero, suc, ◌+◌, ◌≤◌, ℤ, pos, neg_ℤ, refl, arith, List, [], ◌∷◌, ◌++◌, length, length-append, Bool, true, false, cond, inl, inr}
+use Rattle.std.specs.Prelude.{not}
 use Rattle.std.specs.List.{AllByRecursion}
+use Rattle.std.proofs.lemmas.Bool.{or_parts}
 use Rattle.pc_rows.specs.declared.row.TheConstants.{VARIABLES}
 use Rattle.pc_rows.specs.declared.system.TheConstants.{MODEST_ROWS, MODEST_NUMBER}
-use Rattle.pc_rows.specs.Linear.{Linear, coefficient, is_zero, negate_list, negation}
+use Rattle.pc_rows.specs.Linear.{Linear, coefficient, is_zero, negation}
 use Rattle.pc_rows.specs.Bounds.{Within, AllWithin}
 use Rattle.pc_rows.specs.Modest.{occurs, occurring, IsModest}
+use Rattle.pc_rows.proofs.Algebra.{get_or-negate_list}
 use Rattle.pc_rows.proofs.Joining.{each_join}
 use Rattle.pc_rows.proofs.Lists.{zero_is}
 use Rattle.pc_entail.specs.Showing.{question}
@@ -22,11 +24,6 @@ record IsSmall (rows : List Linear) (r : Linear) : Type 0 where
   negation : Within MODEST_NUMBER (negation r)
   variables : HasNoOther rows r
 
--- of two tests of which one is true, neither is false
-or_false : (b c : Bool) → (b || c) ≡ false → (b ≡ false) × (c ≡ false)
-or_false true c h = cc
-or_false false c h = (refl, h)
-
 zero_test : (t : Bool) → not t ≡ false → t ≡ true
 zero_test true h = refl
 zero_test false h = cc
@@ -34,17 +31,12 @@ zero_test false h = cc
 none_occurs : (v : ℕ) (rows : List Linear) → occurs v rows ≡ false → AllByRecursion (λ r. coefficient r v ≡ pos 0) rows
 none_occurs v [] h = tt
 none_occurs v (r ∷ rows) h =
-    let b = or_false (not (is_zero (coefficient r v))) (occurs v rows) h in
+    let b = or_parts (not (is_zero (coefficient r v))) (occurs v rows) h in
     (zero_is (coefficient r v) (zero_test (is_zero (coefficient r v)) b.0), none_occurs v rows b.1)
 
 occurs_none : (v : ℕ) (rows : List Linear) → AllByRecursion (λ r. coefficient r v ≡ pos 0) rows → occurs v rows ≡ false
 occurs_none v [] h = refl
 occurs_none v (r ∷ rows) h = rw (h.0, occurs_none v rows h.1) refl
-
-get_or-negate_list : (a : List ℤ) (k : ℕ) → get_or (negate_list a) k (pos 0) ≡ neg_ℤ (get_or a k (pos 0))
-get_or-negate_list [] k = refl
-get_or-negate_list (a ∷ as') zero = refl
-get_or-negate_list (a ∷ as') (suc k) = get_or-negate_list as' k
 
 negated_coefficient : (r : Linear) (v : ℕ) → coefficient (negation r) v ≡ neg_ℤ (coefficient r v)
 negated_coefficient r v = get_or-negate_list r.coefficients v

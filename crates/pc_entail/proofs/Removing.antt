@@ -2,9 +2,9 @@
 use Rattle.std.proofs.Common.{◌≡◌, refl, sym, subst, ◌∙◌, List, [], ◌∷◌, ◌++◌, inl, inr, append_assoc, true}
 use Rattle.std.specs.Prelude.{◌↔◌}
 use Rattle.std.specs.List.{AllByRecursion, list_all}
+use Rattle.std.proofs.lemmas.Bool.{and_parts}
 use Rattle.std.proofs.lemmas.List.{append-nil}
 use Rattle.pc_rows.specs.Linear.{Linear, State, Meets, MeetsAll}
-use Rattle.pc_rows.proofs.Ranges.{and_is}
 use Rattle.pc_entail.specs.Showing.{AllShown}
 use Rattle.pc_entail.specs.Reduction.{Reduces, Thins, Thinned, IsSplit, RemovesShown}
 use Rattle.pc_entail.specs.Laws.{ReductionsAreEqual, TestsAreKept}
@@ -73,7 +73,7 @@ tests_are_kept test rows stay removes h = all stay (stay_each (λ r. test r ≡ 
   where
     each : (rs : List Linear) → list_all test rs ≡ true → AllByRecursion (λ r. test r ≡ true) rs
     each [] h = tt
-    each (r ∷ rs) h = let b = and_is (test r) (list_all test rs) h in (b.0, each rs b.1)
+    each (r ∷ rs) h = let b = and_parts (test r) (list_all test rs) h in (b.0, each rs b.1)
 
     all : (rs : List Linear) → AllByRecursion (λ r. test r ≡ true) rs → list_all test rs ≡ true
     all [] h = refl

@@ -2,6 +2,7 @@
 use Rattle.std.proofs.Common.{◌≡◌, ℕ, ◌+◌, ◌<◌, ◌≤◌, suc, ℤ, pos, List, [], ◌∷◌, ◌++◌, length, true, refl, sym, ap, subst, ◌∙◌, arith, inl, inr, length-append, get_or, append-nil}
 use Rattle.std.specs.Prelude.{◌⊎◌, ◌&&◌, nat_le}
 use Rattle.std.specs.List.{AllByRecursion as Each}
+use Rattle.std.proofs.lemmas.Bool.{and_parts}
 use Rattle.pc_text.specs.declared.place.Place.{Place}
 use Rattle.pc_rows.specs.Linear.{zero_from}
 use Rattle.pc_rows.proofs.First.{zero_from_entry}
@@ -13,7 +14,6 @@ use Rattle.pc_program.specs.Sane.{sane_stmts, edges_of}
 use Rattle.pc_rows.specs.Linear.{State}
 use Rattle.pc_program.specs.declared.program.Program.{Program}
 use Rattle.pc_program.specs.declared.tree.Stmt.{Stmt}
-use Rattle.pc_program.proofs.Results.{and_is}
 use Rattle.pc_program.proofs.Stmts.{by_stmt, all_by}
 use Rattle.pc_flow.specs.Arc.{Arc, arc}
 use Rattle.pc_flow.specs.declared.what.What.TheVariants.{Enter, Test}
@@ -158,9 +158,9 @@ module _ (p : Program) (s : State) (long : length s ≡ p.names.params) where
 
   is_sane : sane_stmts vars p.body ≡ true
   is_sane =
-      let a = and_is (nat_le p.names.params vars) (nat_le vars VARIABLES && (sane_stmts vars p.body && nat_le (edges_of p.body) EDGES)) p.sane in
-      let b = and_is (nat_le vars VARIABLES) (sane_stmts vars p.body && nat_le (edges_of p.body) EDGES) a.1 in
-      (and_is (sane_stmts vars p.body) (nat_le (edges_of p.body) EDGES) b.1).0
+      let a = and_parts (nat_le p.names.params vars) (nat_le vars VARIABLES && (sane_stmts vars p.body && nat_le (edges_of p.body) EDGES)) p.sane in
+      let b = and_parts (nat_le vars VARIABLES) (sane_stmts vars p.body && nat_le (edges_of p.body) EDGES) a.1 in
+      (and_parts (sane_stmts vars p.body) (nat_le (edges_of p.body) EDGES) b.1).0
 
   tied : Tied g ρ js 1 2 [] (length (rests_of p.body [])) (made p)
   tied = list_ties vars g ρ js p.body (all_by (TiesOne vars g ρ js) (statement_ties vars g ρ js) p.body) 1 2 [] is_sane (omega arith) (omega arith) (sym (append-nil p.body))

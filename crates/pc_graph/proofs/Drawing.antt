@@ -2,6 +2,7 @@
 use Rattle.std.proofs.Common.{◌≡◌, ℕ, ◌+◌, ◌<◌, ◌^◌, List, [], ◌∷◌, length, Bool, true, false, refl, sym, ap, subst, ◌∙◌, arith, map, drop, append_assoc, get_or}
 use Rattle.std.specs.Prelude.{slice_get, Some}
 use Rattle.std.specs.List.{list_all}
+use Rattle.std.proofs.lemmas.Bool.{and_parts}
 use Rattle.pc_text.specs.declared.place.Place.{Place}
 use Rattle.pc_rows.specs.Linear.{Linear, negation}
 use Rattle.pc_rows.proofs.Adding.{drop_at, drop_got}
@@ -12,7 +13,6 @@ use Rattle.pc_program.specs.declared.tree.Test.{Test as Condition}
 use Rattle.pc_program.specs.declared.tree.Stmt.{Stmt}
 use Rattle.pc_program.specs.declared.tree.Stmt.TheVariants.{If, While, rolls-If, rolls-While}
 use Rattle.pc_program.specs.declared.tree.Stmt.TheOpen as stmt
-use Rattle.pc_program.proofs.Results.{and_is}
 use Rattle.pc_flow.specs.Arc.{marked}
 use Rattle.pc_flow.specs.declared.what.What.TheVariants.{Test}
 use Rattle.pc_graph.specs.Drawn.{Drawn, extended, with_edge, with_tests, branched, joined_at, turned, headed}
@@ -24,11 +24,11 @@ use Rattle.pc_graph.proofs.Unrolled.{rule-if, rule-while}
 -- ---- an edge for the negation of each row
 
 pub row_fits_at : (rows : List Linear) (i : ℕ) (r : Linear) → slice_get rows i ≡ Some r → list_all row_fits (drop i rows) ≡ true → row_fits r ≡ true
-row_fits_at rows i r e h = (and_is (row_fits r) (list_all row_fits (drop (i + 1) rows)) (sym (ap (list_all row_fits) (drop_got rows i r e)) ∙ h)).0
+row_fits_at rows i r e h = (and_parts (row_fits r) (list_all row_fits (drop (i + 1) rows)) (sym (ap (list_all row_fits) (drop_got rows i r e)) ∙ h)).0
 
 pub rows_fit_next : (rows : List Linear) (i : ℕ) (r : Linear) → slice_get rows i ≡ Some r → list_all row_fits (drop i rows) ≡ true →
     list_all row_fits (drop (i + 1) rows) ≡ true
-rows_fit_next rows i r e h = (and_is (row_fits r) (list_all row_fits (drop (i + 1) rows)) (sym (ap (list_all row_fits) (drop_got rows i r e)) ∙ h)).1
+rows_fit_next rows i r e h = (and_parts (row_fits r) (list_all row_fits (drop (i + 1) rows)) (sym (ap (list_all row_fits) (drop_got rows i r e)) ∙ h)).1
 
 pub spread_next : (p q : ℕ) (rows alone : List Linear) (i : ℕ) (r row : Linear) (body : Bool) (g h : Drawn) → slice_get rows i ≡ Some r → row ≡ negation r → alone ≡ row ∷ [] →
     h ≡ with_edge (marked body p q (Test alone)) g → with_tests p q (apart (drop (i + 1) rows)) body h ≡ with_tests p q (apart (drop i rows)) body g
@@ -84,7 +84,7 @@ doing_next n list i x g0 g h lt e d made =
     let room = subst Q step d.room in
     record {
       so_far = rw made (simp append_assoc so_far);
-      sane = (and_is (sane_stmt n x) (sane_stmts n (drop (i + 1) list)) (sym (ap (sane_stmts n) step) ∙ d.sane)).1;
+      sane = (and_parts (sane_stmt n x) (sane_stmts n (drop (i + 1) list)) (sym (ap (sane_stmts n) step) ∙ d.sane)).1;
       room = rw made room;
     }
 
@@ -95,6 +95,6 @@ doing_here n list i x g0 g lt e d =
     let Q : List Stmt → Type 0 = λ k. (rules k g.at g.next).next < 2 ^ 32 in
     let room = subst Q step d.room in
     let more = list_grows (drop (i + 1) list) (rule x g.at g.next).last (rule x g.at g.next).next in (
-      (and_is (sane_stmt n x) (sane_stmts n (drop (i + 1) list)) (sym (ap (sane_stmts n) step) ∙ d.sane)).0,
+      (and_parts (sane_stmt n x) (sane_stmts n (drop (i + 1) list)) (sym (ap (sane_stmts n) step) ∙ d.sane)).0,
       omega arith,
     )

@@ -3,7 +3,7 @@ use Rattle.std.proofs.Common.{◌≡◌, ◌≢◌, ℕ, ◌+◌, ◌<◌, ◌�
 use Rattle.std.specs.Prelude.{◌⊎◌, ◌&&◌, ◌==◌, nat_le, sum}
 use Rattle.std.specs.List.{AllByRecursion as Each, list_any}
 use Rattle.std.proofs.lemmas.Bool.Decides.{nat_tests}
-use Rattle.std.proofs.lemmas.Bool.{or_from, leb-true}
+use Rattle.std.proofs.lemmas.Bool.{or_from, leb-true, and_parts}
 use Rattle.pc_text.specs.declared.place.Place.{Place}
 use Rattle.pc_rows.specs.declared.row.TheConstants.{VARIABLES}
 use Rattle.pc_rows.specs.Linear.{IsOver}
@@ -11,7 +11,6 @@ use Rattle.pc_language.specs.declared.limits.TheConstants.{EDGES}
 use Rattle.pc_program.specs.declared.program.Program.{Program}
 use Rattle.pc_program.specs.declared.tree.Stmt.{Stmt}
 use Rattle.pc_program.specs.Sane.{sane_stmts, edges, edges_of}
-use Rattle.pc_program.proofs.Results.{and_is}
 use Rattle.pc_graph.specs.declared.draft.Loop.{Loop}
 use Rattle.pc_flow.specs.declared.point.PointInfo.{PointInfo}
 use Rattle.pc_flow.specs.Arc.{Arc}
@@ -54,9 +53,9 @@ pub record Keeps (p : Program) : Type 0 where
 pub keeps : (p : Program) → Keeps p
 keeps p =
     let n = length p.names.names in
-    let a = and_is (nat_le p.names.params n) (nat_le n VARIABLES && (sane_stmts n p.body && nat_le (edges_of p.body) EDGES)) p.sane in
-    let b = and_is (nat_le n VARIABLES) (sane_stmts n p.body && nat_le (edges_of p.body) EDGES) a.1 in
-    let c = and_is (sane_stmts n p.body) (nat_le (edges_of p.body) EDGES) b.1 in
+    let a = and_parts (nat_le p.names.params n) (nat_le n VARIABLES && (sane_stmts n p.body && nat_le (edges_of p.body) EDGES)) p.sane in
+    let b = and_parts (nat_le n VARIABLES) (sane_stmts n p.body && nat_le (edges_of p.body) EDGES) a.1 in
+    let c = and_parts (sane_stmts n p.body) (nat_le (edges_of p.body) EDGES) b.1 in
     record { params = leb-true _ _ a.0; variables = leb-true _ _ b.0; sane = c.0; edges = leb-true _ _ c.1 }
 
 pub made_shape : (p : Program) → Shaped (length p.names.names) 2 (made p)

@@ -4,6 +4,10 @@ pub mod Tied
 pub mod Pieces
 pub mod Rules
 pub mod Bridge
+pub mod Within
+pub mod Marked
+pub mod BranchMarks
+pub mod LoopMarks
 pub mod Marks
 pub mod Loops
 pub mod Places

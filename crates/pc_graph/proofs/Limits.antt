@@ -2,6 +2,7 @@
 use Rattle.std.proofs.Common.{◌≡◌, ℕ, ◌+◌, ◌<◌, ◌≤◌, pos, List, [], ◌∷◌, length, Bool, true, false, refl, arith, int_le}
 use Rattle.std.specs.Prelude.{◌&&◌, Option, Some, None}
 use Rattle.std.specs.List.{AllByRecursion as Each}
+use Rattle.std.proofs.lemmas.Bool.{and_parts}
 use Rattle.pc_language.specs.declared.choice.Bound.{Bound}
 use Rattle.pc_language.specs.declared.choice.Bound.TheVariants as bound
 use Rattle.pc_language.specs.Ends.{end_of}
@@ -15,7 +16,6 @@ use Rattle.pc_program.specs.Sane.{sane_test, sane_right, sane_expr, names_below,
 use Rattle.pc_program.specs.declared.tree.Right.{Right}
 use Rattle.pc_program.specs.declared.tree.Test.{Test as Condition}
 use Rattle.pc_program.specs.declared.tree.Test.TheVariants as test
-use Rattle.pc_program.proofs.Results.{and_is}
 use Rattle.pc_flow.specs.declared.what.TheConstants.{TEST_ROWS}
 use Rattle.pc_flow.specs.Arc.{IsFit, BoundsFit}
 use Rattle.pc_graph.specs.Lowering.{low_end, high_end, assigned}
@@ -52,8 +52,8 @@ test_has (test.All cs) = way_of_has (is_lone cs) (rows_all cs)
 
 ends_fit : (lo hi : Bound) → in_order (end_of lo) (end_of hi) ≡ true → BoundsFit lo hi
 ends_fit (bound.At lo) (bound.At hi) h =
-    let a = and_is (in_range lo) (in_range hi && int_le lo hi) h in
-    let b = and_is (in_range hi) (int_le lo hi) a.1 in
+    let a = and_parts (in_range lo) (in_range hi && int_le lo hi) h in
+    let b = and_parts (in_range hi) (int_le lo hi) a.1 in
     record { low = is_in lo a.0; high = is_in hi b.0; ordered = le_is lo hi b.1 }
 ends_fit (bound.At lo) bound.Open h = record { low = is_in lo h; high = tt; ordered = tt }
 ends_fit bound.Open (bound.At hi) h = record { low = tt; high = is_in hi h; ordered = tt }
@@ -64,7 +64,7 @@ choice_fits None h = ends_fit (bound.At (pos 0)) (bound.At (pos 0)) refl
 choice_fits (Some choice) h = ends_fit choice.lo choice.hi h
 
 pub assigned_fits : (n v : ℕ) (r : Right) → n ≤ VARIABLES → v < n → sane_right n r ≡ true → IsFit (assigned v r)
-assigned_fits n v r few lt h = (omega arith, choice_fits r.choice (and_is (sane_expr n r.expr) (sane_choice r.choice) h).1)
+assigned_fits n v r few lt h = (omega arith, choice_fits r.choice (and_parts (sane_expr n r.expr) (sane_choice r.choice) h).1)
 
 pub right_over : (n : ℕ) (r : Right) → sane_right n r ≡ true → IsOver n (form r.expr)
-right_over n r h = form_is_over n r.expr (and_is (is_affine r.expr) (names_below n r.expr) (and_is (sane_expr n r.expr) (sane_choice r.choice) h).0).1
+right_over n r h = form_is_over n r.expr (and_parts (is_affine r.expr) (names_below n r.expr) (and_parts (sane_expr n r.expr) (sane_choice r.choice) h).0).1

@@ -19,8 +19,10 @@ use Rattle.pc_graph.specs.Marks.{IsLoopAt, MarksLoops, LoopsAreMarked}
 use Rattle.pc_graph.specs.Rest.{rest, rests_of}
 use Rattle.pc_graph.proofs.Bridge.{holds_from}
 use Rattle.pc_graph.proofs.Graphs.{graph_kept, head_point, points-length}
-use Rattle.pc_graph.proofs.Marks.{Begins, Within, Marked, before, all_marks}
+use Rattle.pc_graph.proofs.Marked.{Begins, Marked, before}
+use Rattle.pc_graph.proofs.Marks.{all_marks}
 use Rattle.pc_graph.proofs.Shapes.{HeadIn}
+use Rattle.pc_graph.proofs.Within.{Within}
 
 -- the point with number b + q
 point_there : (loops : List Loop) (b : ℕ) (places : List Place) (q : ℕ) (point : PointInfo) → slice_get (points_from loops b places) q ≡ Some point →

@@ -2,7 +2,7 @@
 use Rattle.std.proofs.Common.{◌≡◌, ℕ, ◌*◌, ◌≤◌, List, [], ◌∷◌, ◌++◌, length, Bool, true, refl, sym, ap, ◌∙◌, arith, length-append}
 use Rattle.std.specs.Prelude.{◌&&◌, not, nat_le}
 use Rattle.std.specs.List.{list_all}
-use Rattle.std.proofs.lemmas.Bool.{leb-true}
+use Rattle.std.proofs.lemmas.Bool.{leb-true, and_parts, and_from}
 use Rattle.pc_text.specs.declared.place.Place.{Place}
 use Rattle.pc_language.specs.declared.operator.Op.{Op}
 use Rattle.pc_language.specs.declared.operator.Op.TheVariants as op
@@ -16,7 +16,6 @@ use Rattle.pc_program.specs.declared.tree.Test.TheVariants as test
 use Rattle.pc_program.specs.declared.tree.Stmt.{Stmt, fold-roll-Stmt}
 use Rattle.pc_program.specs.declared.tree.Stmt.TheVariants.{If, While, Assert, Assume, rolls-If, rolls-While, rolls-Assert, rolls-Assume}
 use Rattle.pc_program.specs.declared.tree.Stmt.TheOpen as stmt
-use Rattle.pc_program.proofs.Results.{and_is, and_of}
 use Rattle.pc_flow.specs.declared.what.TheConstants.{TEST_ROWS}
 use Rattle.pc_graph.proofs.TestWays.{rows_found}
 use Rattle.pc_graph.proofs.Unrolled.{sane-if, sane-while}
@@ -25,14 +24,14 @@ use Rattle.pc_graph.proofs.Unrolled.{sane-if, sane-while}
 
 list_and : {A : Type 0} (p : A → Bool) (xs ys : List A) → list_all p xs ≡ true → list_all p ys ≡ true → list_all p (xs ++ ys) ≡ true
 list_and p [] ys h k = k
-list_and p (x ∷ xs) ys h k = let a = and_is (p x) (list_all p xs) h in and_of (p x) (list_all p (xs ++ ys)) a.0 (list_and p xs ys a.1 k)
+list_and p (x ∷ xs) ys h k = let a = and_parts (p x) (list_all p xs) h in and_from (p x) (list_all p (xs ++ ys)) a.0 (list_and p xs ys a.1 k)
 
 -- each row of sane comparisons and its negation are in range
 pub rows_fit : (cs : List Compare) → list_all has_sane_rows cs ≡ true → list_all row_fits (rows_all cs) ≡ true
 rows_fit [] h = refl
 rows_fit (c ∷ cs) h =
-    let a = and_is (has_sane_rows c) (list_all has_sane_rows cs) h in
-    list_and row_fits (rows_of c) (rows_all cs) (and_is (has_rows c) (list_all row_fits (rows_of c)) a.0).1 (rows_fit cs a.1)
+    let a = and_parts (has_sane_rows c) (list_all has_sane_rows cs) h in
+    list_and row_fits (rows_of c) (rows_all cs) (and_parts (has_rows c) (list_all row_fits (rows_of c)) a.0).1 (rows_fit cs a.1)
 
 rows_by_few : (o : Op) (l r : Linear) → length (rows_by o l r) ≤ 2
 rows_by_few op.Less l r = omega arith
@@ -58,19 +57,19 @@ IsReady cs = (length cs ≤ COMPARISONS) × (list_all has_sane_rows cs ≡ true)
 
 pub has_sane : (n : ℕ) (c : Compare) → sane_compare n c ≡ true → has_sane_rows c ≡ true
 has_sane n c h =
-    let l = and_is (sane_expr n c.left) (sane_expr n c.right && list_all row_fits (rows_of c)) h in
-    let r = and_is (sane_expr n c.right) (list_all row_fits (rows_of c)) l.1 in
-    and_of (has_rows c) (list_all row_fits (rows_of c)) (rows_found n c h) r.1
+    let l = and_parts (sane_expr n c.left) (sane_expr n c.right && list_all row_fits (rows_of c)) h in
+    let r = and_parts (sane_expr n c.right) (list_all row_fits (rows_of c)) l.1 in
+    and_from (has_rows c) (list_all row_fits (rows_of c)) (rows_found n c h) r.1
 
 all_have : (n : ℕ) (cs : List Compare) → list_all (λ c. not (is_unequal c.op) && sane_compare n c) cs ≡ true → list_all has_sane_rows cs ≡ true
 all_have n [] h = refl
 all_have n (c ∷ cs) h =
-    let a = and_is (not (is_unequal c.op) && sane_compare n c) (list_all (λ c. not (is_unequal c.op) && sane_compare n c) cs) h in
-    and_of (has_sane_rows c) (list_all has_sane_rows cs) (has_sane n c (and_is (not (is_unequal c.op)) (sane_compare n c) a.0).1) (all_have n cs a.1)
+    let a = and_parts (not (is_unequal c.op) && sane_compare n c) (list_all (λ c. not (is_unequal c.op) && sane_compare n c) cs) h in
+    and_from (has_sane_rows c) (list_all has_sane_rows cs) (has_sane n c (and_parts (not (is_unequal c.op)) (sane_compare n c) a.0).1) (all_have n cs a.1)
 
 pub each_ready : (n : ℕ) (cs : List Compare) → sane_each n cs ≡ true → IsReady cs
 each_ready n cs h =
-    let a = and_is (nat_le (length cs) COMPARISONS) (list_all (λ c. not (is_unequal c.op) && sane_compare n c) cs) h in
+    let a = and_parts (nat_le (length cs) COMPARISONS) (list_all (λ c. not (is_unequal c.op) && sane_compare n c) cs) h in
     (leb-true (length cs) COMPARISONS a.0, all_have n cs a.1)
 
 pub all_ready : (n : ℕ) (cs : List Compare) → sane_all n cs ≡ true → IsReady cs
@@ -79,7 +78,7 @@ all_ready n (c ∷ cs) h = each_ready n (c ∷ cs) h
 
 pub test_ready : (n : ℕ) (cs : List Compare) → sane_test n (test.All cs) ≡ true → IsReady cs
 test_ready n [] h = absurd (cc)
-test_ready n (c ∷ []) h = (omega arith, and_of (has_sane_rows c) true (has_sane n c h) refl)
+test_ready n (c ∷ []) h = (omega arith, and_from (has_sane_rows c) true (has_sane n c h) refl)
 test_ready n (c ∷ d ∷ cs) h = each_ready n (c ∷ d ∷ cs) h
 
 -- the rows of what is ready
@@ -107,13 +106,13 @@ assume_ready n x p cs e h =
 pub if_ready : (n : ℕ) (p : Place) (t : Test) (xs ys : List Stmt) → sane_stmt n (If p t xs ys) ≡ true →
     (sane_test n t ≡ true) × ((sane_stmts n xs ≡ true) × (sane_stmts n ys ≡ true))
 if_ready n p t xs ys h =
-    let a = and_is (sane_test n t) (sane_stmts n xs && sane_stmts n ys) (sym (ap (sane_stmt n) (sym (rolls-If p t xs ys)) ∙ sane-if n p t xs ys) ∙ h) in
-    (a.0, and_is (sane_stmts n xs) (sane_stmts n ys) a.1)
+    let a = and_parts (sane_test n t) (sane_stmts n xs && sane_stmts n ys) (sym (ap (sane_stmt n) (sym (rolls-If p t xs ys)) ∙ sane-if n p t xs ys) ∙ h) in
+    (a.0, and_parts (sane_stmts n xs) (sane_stmts n ys) a.1)
 
 -- the parts of a `while` keep the rules
 pub while_ready : (n : ℕ) (p : Place) (t : Test) (tried : List Compare) (xs : List Stmt) → sane_stmt n (While p t tried xs) ≡ true →
     (sane_test n t ≡ true) × (IsReady tried × (sane_stmts n xs ≡ true))
 while_ready n p t tried xs h =
-    let a = and_is (sane_test n t) (sane_each n tried && sane_stmts n xs) (sym (ap (sane_stmt n) (sym (rolls-While p t tried xs)) ∙ sane-while n p t tried xs) ∙ h) in
-    let b = and_is (sane_each n tried) (sane_stmts n xs) a.1 in
+    let a = and_parts (sane_test n t) (sane_each n tried && sane_stmts n xs) (sym (ap (sane_stmt n) (sym (rolls-While p t tried xs)) ∙ sane-while n p t tried xs) ∙ h) in
+    let b = and_parts (sane_each n tried) (sane_stmts n xs) a.1 in
     (a.0, (each_ready n tried b.0, b.1))

@@ -2,6 +2,7 @@
 use Rattle.std.proofs.Common.{◌≡◌, ℕ, ◌+◌, ◌<◌, ℤ, pos, ◌≤ℤ◌, ◌+ℤ◌, List, [], ◌∷◌, ◌++◌, length, Bool, true, false, cond, refl, sym, ap, subst, ◌∙◌, arith, inl, inr, map, length-append, int_le}
 use Rattle.std.specs.Prelude.{◌⊎◌, ◌&&◌, slice_set, nat_lt, Option, Some, None}
 use Rattle.std.specs.List.{AllByRecursion as Each}
+use Rattle.std.proofs.lemmas.Bool.{and_parts}
 use Rattle.std.proofs.lemmas.Int.{ints}
 use Rattle.pc_text.specs.declared.place.Place.{Place}
 use Rattle.pc_language.specs.declared.choice.Choice.{Choice}
@@ -30,7 +31,6 @@ use Rattle.pc_graph.specs.Rest.{rests, rests_of}
 use Rattle.pc_flow.specs.Walk.{Pass}
 use Rattle.pc_graph.specs.Ways.{ways}
 use Rattle.pc_program.proofs.FormLemmas.{forms_are_right}
-use Rattle.pc_program.proofs.Results.{and_is}
 use Rattle.pc_flow.proofs.Lists.{each_more}
 use Rattle.pc_graph.proofs.TestWays.{ways_sound, ways_complete, holds_meets, meets_holds}
 use Rattle.pc_graph.proofs.Tied.{Holds, ArcOk, Fired, Simulates, joins, Tied}
@@ -49,7 +49,7 @@ high_within : (hi c : ℤ) → clamped None (Some hi) c ≤ℤ hi
 high_within hi c = grind (arith, ints)
 
 clamped_within : (lo hi : Option ℤ) (c : ℤ) → in_order lo hi ≡ true → IsNotBelow lo (clamped lo hi c) × IsNotAbove hi (clamped lo hi c)
-clamped_within (Some lo) (Some hi) c h = both_within lo hi c (and_is (in_range hi) (int_le lo hi) (and_is (in_range lo) (in_range hi && int_le lo hi) h).1).1
+clamped_within (Some lo) (Some hi) c h = both_within lo hi c (and_parts (in_range hi) (int_le lo hi) (and_parts (in_range lo) (in_range hi && int_le lo hi) h).1).1
 clamped_within (Some lo) None c h = (low_within lo c, tt)
 clamped_within None (Some hi) c h = (tt, high_within hi c)
 clamped_within None None c h = (tt, tt)
@@ -109,7 +109,7 @@ module _ (vars : ℕ) (g : List Arc) (ρ : ℕ → List Stmt) (js : List Arc) wh
   list_ties [] all p n k s pos_p pos_n e hold ins jns =
       record { next = omega arith; last = pos_p; rest = e; begins = λ h. h; edges = λ h. tt; skips = tt }
   list_ties (x ∷ ss) all p n k s pos_p pos_n e hold ins jns =
-      let b = and_is (sane_stmt vars x) (sane_stmts vars ss) s in
+      let b = and_parts (sane_stmt vars x) (sane_stmts vars ss) s in
       let a = rule x p n in
       let f = all.0 p n (ss ++ k) b.0 pos_p pos_n e (holds_left ρ n (rests x (ss ++ k)) (rests_of ss k) hold)
       (each_left (λ e. In e g) a.edges (rules ss a.last a.next).edges ins) (each_left (λ e. In e js) a.joins (rules ss a.last a.next).joins jns) in
@@ -129,7 +129,7 @@ module _ (vars : ℕ) (g : List Arc) (ρ : ℕ → List Stmt) (js : List Arc) wh
 
   form_value : (r : Right) → sane_right vars r ≡ true → (s : State) → value (form r.expr) s ≡ value_of s r.expr
   form_value r ok s =
-      (forms_are_right r.expr (and_is (is_affine r.expr) (names_below vars r.expr) (and_is (sane_expr vars r.expr) (sane_choice r.choice) ok).0).0).form.worth s
+      (forms_are_right r.expr (and_parts (is_affine r.expr) (names_below vars r.expr) (and_parts (sane_expr vars r.expr) (sane_choice r.choice) ok).0).0).form.worth s
 
   set_moves : (place : Place) (v : ℕ) (r : Right) (k : List Stmt) → sane_right vars r ≡ true → (s t : State) → Pass (assigned v r) s t →
       (c : ℤ) × (step (roll-Stmt (stmt.Set place v r) ∷ k) s c ≡ Going k t)
@@ -144,7 +144,7 @@ module _ (vars : ℕ) (g : List Arc) (ρ : ℕ → List Stmt) (js : List Arc) wh
       (s : State) (c : ℤ) → Fired g ρ p s (step (roll-Stmt (stmt.Set place v r) ∷ k) s c)
   set_fired place v r p n k ok e m s c =
       let f = form_value r ok s in
-      let w = drawn_within r.choice c (and_is (sane_expr vars r.expr) (sane_choice r.choice) ok).1 in
+      let w = drawn_within r.choice c (and_parts (sane_expr vars r.expr) (sane_choice r.choice) ok).1 in
       subst (Fired g ρ p s) (sym (step-set place v r k s c ∙ ap (λ z. Going k (slice_set s v (z +ℤ drawn r.choice c))) (sym f)))
       (arc p n (assigned v r), m, refl, (drawn r.choice c, w.0, w.1, refl), e)
 
@@ -152,7 +152,7 @@ module _ (vars : ℕ) (g : List Arc) (ρ : ℕ → List Stmt) (js : List Arc) wh
   set_ties place v r = ties_by (roll-Stmt (stmt.Set place v r)) _ (nat_lt v vars && sane_right vars r) _ (one place (assigned v r)) _ (λ k. k ∷ [])
       (fold-roll-Stmt Bool (sane_step vars) (stmt.Set place v r)) (fold-roll-Stmt Rule rule_step (stmt.Set place v r)) (rests-set place v r)
       (λ p n k s0 pos_p pos_n e hold ins jns.
-      let ok = (and_is (nat_lt v vars) (sane_right vars r) s0).1 in
+      let ok = (and_parts (nat_lt v vars) (sane_right vars r) s0).1 in
       one_tied g ρ js place (assigned v r) p n (roll-Stmt (stmt.Set place v r) ∷ k) k pos_n e hold.0
       (set_moves place v r k ok) (λ s. inl tt) (set_fired place v r p n k ok hold.0 ins.0))
 
@@ -220,8 +220,8 @@ module _ (vars : ℕ) (g : List Arc) (ρ : ℕ → List Stmt) (js : List Arc) wh
         Tied g ρ js p n k (length lists) (split place t p n first second)
     split_ties s pos_p pos_n e hold ins jns =
         let IsIn = λ (e : Arc). In e g in
-        let ok = and_is (sane_test vars t) (sane_stmts vars xs && sane_stmts vars ys) s in
-        let ok2 = and_is (sane_stmts vars xs) (sane_stmts vars ys) ok.1 in
+        let ok = and_parts (sane_test vars t) (sane_stmts vars xs && sane_stmts vars ys) s in
+        let ok2 = and_parts (sane_stmts vars xs) (sane_stmts vars ys) ok.1 in
         let trues = tests false p n (ways t true) in
         let falses = tests false p first.next (ways t false) in
         let ends = join_edges first.last second.last second.next in
@@ -292,8 +292,8 @@ module _ (vars : ℕ) (g : List Arc) (ρ : ℕ → List Stmt) (js : List Arc) wh
         Tied g ρ js p n k (length round_lists) (loop place t tried p n body)
     loop_ties s pos_p pos_n e hold ins jns =
         let IsIn = λ (e : Arc). In e g in
-        let ok = and_is (sane_test vars t) (sane_each vars tried && sane_stmts vars xs) s in
-        let ok2 = and_is (sane_each vars tried) (sane_stmts vars xs) ok.1 in
+        let ok = and_parts (sane_test vars t) (sane_each vars tried && sane_stmts vars xs) s in
+        let ok2 = and_parts (sane_each vars tried) (sane_stmts vars xs) ok.1 in
         let trues = tests true p n (ways t true) in
         let falses = tests false p body.next (ways t false) in
         let back = arc body.last p (Test []) in

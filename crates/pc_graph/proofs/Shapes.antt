@@ -3,7 +3,7 @@ use Rattle.std.proofs.Common.{◌≡◌, ℕ, ◌+◌, ◌<◌, ◌≤◌, List,
 use Rattle.std.specs.Prelude.{◌⊎◌, ◌&&◌, ◌==◌, nat_lt}
 use Rattle.std.specs.List.{AllByRecursion as Each, list_any}
 use Rattle.std.proofs.lemmas.Bool.Decides.{nat_tests}
-use Rattle.std.proofs.lemmas.Bool.{or_left, or_right, ltb-true}
+use Rattle.std.proofs.lemmas.Bool.{or_left, or_right, ltb-true, and_parts}
 use Rattle.pc_text.specs.declared.place.Place.{Place}
 use Rattle.pc_rows.specs.Linear.{Linear, IsOver}
 use Rattle.pc_rows.specs.declared.row.TheConstants.{VARIABLES}
@@ -14,7 +14,6 @@ use Rattle.pc_program.specs.declared.tree.Compare.{Compare}
 use Rattle.pc_program.specs.declared.tree.Test.{Test as Condition}
 use Rattle.pc_program.specs.declared.tree.Stmt.{Stmt, fold-roll-Stmt}
 use Rattle.pc_program.specs.declared.tree.Stmt.TheOpen as stmt
-use Rattle.pc_program.proofs.Results.{and_is}
 use Rattle.pc_program.proofs.Stmts.{by_stmt, all_by}
 use Rattle.pc_graph.specs.declared.draft.Loop.{Loop}
 use Rattle.pc_flow.specs.declared.what.TheConstants.{TEST_ROWS}
@@ -91,7 +90,7 @@ module _ (v : ℕ) (few : v ≤ VARIABLES) where
   list_shaped [] all p n s pos_p h =
       record { more = omega arith; last = h; away = pos_p; points = omega arith; few = omega arith; loops = tt; edges = λ m loops le ins. tt }
   list_shaped (x ∷ ss) all p n s pos_p h =
-      let ok = and_is (sane_stmt v x) (sane_stmts v ss) s in
+      let ok = and_parts (sane_stmt v x) (sane_stmts v ss) s in
       let a = rule x p n in
       let f = all.0 p n ok.0 pos_p h in
       let b = rules ss a.last a.next in
@@ -128,8 +127,8 @@ module _ (v : ℕ) (few : v ≤ VARIABLES) where
   split_shaped : (place : Place) (t : Condition) (xs ys : List Stmt) → ShapedBy (sane_stmts v xs) (rules xs) → ShapedBy (sane_stmts v ys) (rules ys) →
       ShapedBy (sane_test v t && (sane_stmts v xs && sane_stmts v ys)) (rule_step (stmt.If place t (map rule xs) (map rule ys)))
   split_shaped place t xs ys hx hy p n s pos_p h =
-      let ok = and_is (sane_test v t) (sane_stmts v xs && sane_stmts v ys) s in
-      let ok2 = and_is (sane_stmts v xs) (sane_stmts v ys) ok.1 in
+      let ok = and_parts (sane_test v t) (sane_stmts v xs && sane_stmts v ys) s in
+      let ok2 = and_parts (sane_stmts v xs) (sane_stmts v ys) ok.1 in
       let a = rules xs n (n + 1) in
       let b = rules ys a.next (a.next + 1) in
       let f = hx n (n + 1) ok2.0 (omega arith) (omega arith) in
@@ -172,8 +171,8 @@ module _ (v : ℕ) (few : v ≤ VARIABLES) where
   loop_shaped : (place : Place) (t : Condition) (tried : List Compare) (xs : List Stmt) → ShapedBy (sane_stmts v xs) (rules xs) →
       ShapedBy (sane_test v t && (sane_each v tried && sane_stmts v xs)) (rule_step (stmt.While place t tried (map rule xs)))
   loop_shaped place t tried xs hx p n s pos_p h =
-      let ok = and_is (sane_test v t) (sane_each v tried && sane_stmts v xs) s in
-      let ok2 = and_is (sane_each v tried) (sane_stmts v xs) ok.1 in
+      let ok = and_parts (sane_test v t) (sane_each v tried && sane_stmts v xs) s in
+      let ok2 = and_parts (sane_each v tried) (sane_stmts v xs) ok.1 in
       let a = rules xs n (n + 1) in
       let f = hx n (n + 1) ok2.1 (omega arith) (omega arith) in
       let f1 = f.more in
@@ -204,7 +203,7 @@ module _ (v : ℕ) (few : v ≤ VARIABLES) where
   shaped x = by_stmt ShapedOne
       (λ place u r. shaped_by _ (nat_lt u v && sane_right v r) _ (one place (assigned u r)) (fold-roll-Stmt Bool (sane_step v) (stmt.Set place u r)) (fold-roll-Stmt Rule rule_step (stmt.Set place u r))
       (λ p n s pos_p h.
-      let ok = and_is (nat_lt u v) (sane_right v r) s in
+      let ok = and_parts (nat_lt u v) (sane_right v r) s in
       one_shaped place (assigned u r) (ltb-true u v ok.0, right_over v r ok.1) (assigned_fits v u r few (ltb-true u v ok.0) ok.1) p n pos_p h))
       (λ place t xs ys hx hy. shaped_by _ (sane_test v t && (sane_stmts v xs && sane_stmts v ys)) _ (rule_step (stmt.If place t (map rule xs) (map rule ys)))
       (sane-if v place t xs ys) (rule-if place t xs ys) (split_shaped place t xs ys (list_shaped xs hx) (list_shaped ys hy)))

@@ -2,13 +2,13 @@
 use Rattle.std.proofs.Common.{◌≡◌, List, [], ◌∷◌, ◌++◌, refl, sym, ◌∙◌, Bool, true}
 use Rattle.std.specs.Prelude.{◌&&◌}
 use Rattle.std.specs.List.{AllByRecursion as Each}
+use Rattle.std.proofs.lemmas.Bool.{and_parts}
 use Rattle.pc_text.specs.declared.place.Place.{Place}
 use Rattle.pc_program.specs.Loops.{whiles, whiles_step, whiles_of}
 use Rattle.pc_program.specs.declared.tree.Test.{Test as Condition}
 use Rattle.pc_program.specs.declared.tree.Test.TheVariants as test
 use Rattle.pc_program.specs.declared.tree.Stmt.{Stmt, fold-roll-Stmt}
 use Rattle.pc_program.specs.declared.tree.Stmt.TheOpen as stmt
-use Rattle.pc_program.proofs.Results.{and_is}
 use Rattle.pc_program.proofs.Stmts.{by_stmt, all_by}
 use Rattle.pc_flow.proofs.Lists.{none_joined}
 use Rattle.pc_graph.specs.Straight.{is_any, straight_step, is_straight, are_straight, StraightIsLoopFree}
@@ -25,14 +25,14 @@ free_by b c ps qs eb ep h e = ep ∙ h (sym eb ∙ e)
 list_free : (ss : List Stmt) → Each FreeOne ss → FreeBy (are_straight ss) (whiles_of ss)
 list_free [] all e = refl
 list_free (x ∷ ss) all e =
-    let ok = and_is (is_straight x) (are_straight ss) e in
+    let ok = and_parts (is_straight x) (are_straight ss) e in
     none_joined (whiles x) (whiles_of ss) (all.0 ok.0) (list_free ss all.1 ok.1)
 
 split_free : (t : Condition) (xs ys : List Stmt) → FreeBy (are_straight xs) (whiles_of xs) → FreeBy (are_straight ys) (whiles_of ys) →
     FreeBy (is_any t && (are_straight xs && are_straight ys)) (whiles_of xs ++ whiles_of ys)
 split_free (test.All cs) xs ys hx hy e = absurd (cc)
 split_free test.Any xs ys hx hy e =
-    let ok = and_is (are_straight xs) (are_straight ys) e in
+    let ok = and_parts (are_straight xs) (are_straight ys) e in
     none_joined (whiles_of xs) (whiles_of ys) (hx ok.0) (hy ok.1)
 
 free : (x : Stmt) → FreeOne x

@@ -2,6 +2,7 @@
 use Rattle.std.proofs.Common.{◌≡◌, ℕ, ◌+◌, ◌<◌, List, [], ◌∷◌, length, Bool, true, refl, sym, subst, arith, map, inl, inr}
 use Rattle.std.specs.Prelude.{◌⊎◌, ◌&&◌}
 use Rattle.std.specs.List.{AllByRecursion as Each}
+use Rattle.std.proofs.lemmas.Bool.{and_parts}
 use Rattle.pc_text.specs.declared.place.Place.{Place}
 use Rattle.pc_rows.proofs.Joining.{each_join}
 use Rattle.pc_program.specs.Forms.{rows_all}
@@ -9,7 +10,6 @@ use Rattle.pc_program.specs.declared.tree.Test.{Test as Condition}
 use Rattle.pc_program.specs.declared.tree.Test.TheVariants as test
 use Rattle.pc_program.specs.declared.tree.Stmt.{Stmt, fold-roll-Stmt}
 use Rattle.pc_program.specs.declared.tree.Stmt.TheOpen as stmt
-use Rattle.pc_program.proofs.Results.{and_is}
 use Rattle.pc_program.proofs.Stmts.{by_stmt, all_by}
 use Rattle.pc_graph.specs.declared.draft.Loop.{Loop}
 use Rattle.pc_flow.specs.Arc.{Arc}
@@ -41,7 +41,7 @@ plain_by b c l m eb el h = subst (λ b. PlainBy b l) (sym eb) (subst (λ (l : Ru
 list_plain : (ss : List Stmt) → Each PlainOne ss → PlainBy (are_straight ss) (rules ss)
 list_plain [] all p n s = record { loops = refl; free = tt }
 list_plain (x ∷ ss) all p n s =
-    let ok = and_is (is_straight x) (are_straight ss) s in
+    let ok = and_parts (is_straight x) (are_straight ss) s in
     let a = rule x p n in
     let b = rules ss a.last a.next in
     let f = all.0 p n ok.0 in
@@ -52,7 +52,7 @@ split_plain : (place : Place) (t : Condition) (xs ys : List Stmt) → PlainBy (a
     PlainBy (is_any t && (are_straight xs && are_straight ys)) (rule_step (stmt.If place t (map rule xs) (map rule ys)))
 split_plain place (test.All cs) xs ys hx hy p n s = absurd (cc)
 split_plain place test.Any xs ys hx hy p n s =
-    let ok = and_is (are_straight xs) (are_straight ys) s in
+    let ok = and_parts (are_straight xs) (are_straight ys) s in
     let a = rules xs n (n + 1) in
     let b = rules ys a.next (a.next + 1) in
     let f = hx n (n + 1) ok.0 in

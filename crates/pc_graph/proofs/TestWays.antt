@@ -4,7 +4,7 @@ use Rattle.std.specs.Prelude.{◌⊎◌, ◌&&◌, not, nat_le}
 use Rattle.std.specs.Ordering.{int_eq}
 use Rattle.std.specs.List.{AllByRecursion as Each, list_all}
 use Rattle.std.proofs.Math.Bool.{and-true}
-use Rattle.std.proofs.lemmas.Bool.{false_from_ne_true}
+use Rattle.std.proofs.lemmas.Bool.{false_from_ne_true, and_parts, and_from}
 use Rattle.pc_rows.specs.Linear.{Linear, Meets, MeetsAll, negation}
 use Rattle.pc_language.specs.declared.limits.TheConstants.{COMPARISONS}
 use Rattle.pc_program.specs.Forms.{is_unequal, is_affine, has_rows, is_plain, row_fits, rows_of, rows_all}
@@ -14,7 +14,6 @@ use Rattle.pc_rows.specs.Linear.{State}
 use Rattle.pc_program.specs.declared.tree.Compare.{Compare}
 use Rattle.pc_program.specs.declared.tree.Test.{Test}
 use Rattle.pc_program.specs.declared.tree.Test.TheVariants as test
-use Rattle.pc_program.proofs.Results.{and_is, and_of}
 use Rattle.pc_program.proofs.RowLemmas.{conjunctions_are_rows, unequals_are_rows}
 use Rattle.pc_rows.proofs.Meeting.{meets_left, meets_join, met_or_not, not_both}
 use Rattle.pc_program.proofs.Stmts.{all_by}
@@ -37,28 +36,23 @@ pub apart_not_all : (rs : List Linear) (s : State) → MeetsAll s rs → Each (�
 apart_not_all [] s h = tt
 apart_not_all (r ∷ rs) s h = ((λ k. not_both r s h.0 k.0), apart_not_all rs s h.1)
 
-none_of : (s : State) (ws : List (List Linear)) → Each (λ w. MeetsAll s w → ⊥) ws → AnyOf (MeetsAll s) ws → ⊥
-none_of s [] e m = m
-none_of s (w ∷ ws) e (inl m) = e.0 m
-none_of s (w ∷ ws) e (inr m) = none_of s ws e.1 m
-
 -- ---- conjunctions that keep the context rules
 
 pub rows_found : (n : ℕ) (c : Compare) → sane_compare n c ≡ true → has_rows c ≡ true
 rows_found n c h =
-    let l = and_is (sane_expr n c.left) (sane_expr n c.right && list_all row_fits (rows_of c)) h in
-    let r = and_is (sane_expr n c.right) (list_all row_fits (rows_of c)) l.1 in
-    and_of (is_affine c.left) (is_affine c.right) (and_is (is_affine c.left) (names_below n c.left) l.0).0 (and_is (is_affine c.right) (names_below n c.right) r.0).0
+    let l = and_parts (sane_expr n c.left) (sane_expr n c.right && list_all row_fits (rows_of c)) h in
+    let r = and_parts (sane_expr n c.right) (list_all row_fits (rows_of c)) l.1 in
+    and_from (is_affine c.left) (is_affine c.right) (and_parts (is_affine c.left) (names_below n c.left) l.0).0 (and_parts (is_affine c.right) (names_below n c.right) r.0).0
 
 all_plain : (n : ℕ) (cs : List Compare) → list_all (λ c. not (is_unequal c.op) && sane_compare n c) cs ≡ true → list_all is_plain cs ≡ true
 all_plain n [] h = refl
 all_plain n (c ∷ cs) h =
-    let a = and_is (not (is_unequal c.op) && sane_compare n c) (list_all (λ c. not (is_unequal c.op) && sane_compare n c) cs) h in
-    let b = and_is (not (is_unequal c.op)) (sane_compare n c) a.0 in
-    and_of (is_plain c) (list_all is_plain cs) (and_of (not (is_unequal c.op)) (has_rows c) b.0 (rows_found n c b.1)) (all_plain n cs a.1)
+    let a = and_parts (not (is_unequal c.op) && sane_compare n c) (list_all (λ c. not (is_unequal c.op) && sane_compare n c) cs) h in
+    let b = and_parts (not (is_unequal c.op)) (sane_compare n c) a.0 in
+    and_from (is_plain c) (list_all is_plain cs) (and_from (not (is_unequal c.op)) (has_rows c) b.0 (rows_found n c b.1)) (all_plain n cs a.1)
 
 each_plain : (n : ℕ) (cs : List Compare) → sane_each n cs ≡ true → list_all is_plain cs ≡ true
-each_plain n cs h = all_plain n cs (and_is (nat_le (length cs) COMPARISONS) (list_all (λ c. not (is_unequal c.op) && sane_compare n c) cs) h).1
+each_plain n cs h = all_plain n cs (and_parts (nat_le (length cs) COMPARISONS) (list_all (λ c. not (is_unequal c.op) && sane_compare n c) cs) h).1
 
 conjunction_plain : (n : ℕ) (cs : List Compare) → sane_all n cs ≡ true → list_all is_plain cs ≡ true
 conjunction_plain n [] h = refl
@@ -74,7 +68,7 @@ meets_holds n cs s u h = (conjunctions_are_rows cs s (conjunction_plain n cs u))
 -- a test but for a lone `!=` is a conjunction
 test_plain : (n : ℕ) (cs : List Compare) → sane_test n (test.All cs) ≡ true → is_lone cs ≡ false → list_all is_plain cs ≡ true
 test_plain n [] u l = refl
-test_plain n (c ∷ []) u l = and_of (is_plain c) true (and_of (not (is_unequal c.op)) (has_rows c) (ap not l) (rows_found n c u)) refl
+test_plain n (c ∷ []) u l = and_from (is_plain c) true (and_from (not (is_unequal c.op)) (has_rows c) (ap not l) (rows_found n c u)) refl
 test_plain n (c ∷ d ∷ cs) u l = each_plain n (c ∷ d ∷ cs) u
 
 -- a lone `!=` fails exactly where its rows are met

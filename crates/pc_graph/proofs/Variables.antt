@@ -5,7 +5,7 @@ use Rattle.std.specs.List.{AllByRecursion as Each, list_all}
 use Rattle.std.proofs.lemmas.Int.{ints}
 use Rattle.std.proofs.lemmas.List.{get_or-set_other}
 use Rattle.std.proofs.Math.IntN.{*ℤ-zero}
-use Rattle.std.proofs.lemmas.Bool.{ltb-true}
+use Rattle.std.proofs.lemmas.Bool.{ltb-true, and_parts}
 use Rattle.pc_text.specs.declared.place.Place.{Place}
 use Rattle.pc_language.specs.declared.limits.TheConstants.{COMPARISONS}
 use Rattle.pc_language.specs.declared.operator.Op.{Op}
@@ -24,8 +24,8 @@ use Rattle.pc_program.specs.declared.tree.Expr.{Expr, fold-roll-Expr}
 use Rattle.pc_program.specs.declared.tree.Test.{Test as Condition}
 use Rattle.pc_program.specs.declared.tree.Test.TheVariants as test
 use Rattle.pc_program.proofs.Exprs.{by_cases}
-use Rattle.pc_program.proofs.Results.{and_is, bind_keeps, if_keeps}
-use Rattle.pc_program.proofs.FormLemmas.{get_or-zeros}
+use Rattle.pc_program.proofs.Results.{bind_keeps, if_keeps}
+use Rattle.pc_rows.proofs.Algebra.{get_or-zeros}
 use Rattle.pc_graph.specs.declared.draft.Loop.{Loop}
 use Rattle.pc_graph.specs.Lowering.{tried_at, points_from}
 use Rattle.pc_graph.specs.Ways.{is_lone, apart, ways_of, ways}
@@ -70,7 +70,7 @@ both_claim : (n : ℕ) (f : Linear → Linear → Result Linear AffineFault) →
     (below below' : Bool) (r q : Result Linear AffineFault) → Claim n below r → Claim n below' q → Claim n (below && below') (bind r (λ a. bind q (λ b. f a b)))
 unfolding Claim
 both_claim n f step below below' r q h k e =
-    let p = and_is below below' e in
+    let p = and_parts below below' e in
     bind_keeps (IsOver n) (IsOver n) r (λ a. bind q (λ b. f a b)) (λ a x. bind_keeps (IsOver n) (IsOver n) q (λ b. f a b) (λ b y. step a b x y) (k p.1)) (h p.0)
 
 claims : (n : ℕ) (e : Expr) → Claim n (names_below n e) (form_of e)
@@ -95,7 +95,7 @@ form_is_over n e h = by (form_of e) (claims n e h)
 -- ---- comparisons and tests
 
 sane_is_over : (n : ℕ) (e : Expr) → sane_expr n e ≡ true → IsOver n (form e)
-sane_is_over n e h = form_is_over n e (and_is (is_affine e) (names_below n e) h).1
+sane_is_over n e h = form_is_over n e (and_parts (is_affine e) (names_below n e) h).1
 
 rows_by_over : (n : ℕ) (o : Op) (l r : Linear) → IsOver n l → IsOver n r → Each (IsOver n) (rows_by o l r)
 rows_by_over n op.Less l r f g = (difference_is_over n r l g f, tt)
@@ -107,18 +107,18 @@ rows_by_over n op.Unequal l r f g = (difference_is_over n l r f g, (difference_i
 
 compare_over : (n : ℕ) (c : Compare) → sane_compare n c ≡ true → Each (IsOver n) (rows_of c)
 compare_over n c h =
-    let l = and_is (sane_expr n c.left) (sane_expr n c.right && list_all row_fits (rows_of c)) h in
-    let r = and_is (sane_expr n c.right) (list_all row_fits (rows_of c)) l.1 in
+    let l = and_parts (sane_expr n c.left) (sane_expr n c.right && list_all row_fits (rows_of c)) h in
+    let r = and_parts (sane_expr n c.right) (list_all row_fits (rows_of c)) l.1 in
     rows_by_over n c.op (form c.left) (form c.right) (sane_is_over n c.left l.0) (sane_is_over n c.right r.0)
 
 conjunction_over : (n : ℕ) (cs : List Compare) → list_all (λ c. not (is_unequal c.op) && sane_compare n c) cs ≡ true → Each (IsOver n) (rows_all cs)
 conjunction_over n [] h = tt
 conjunction_over n (c ∷ cs) h =
-    let a = and_is (not (is_unequal c.op) && sane_compare n c) (list_all (λ c. not (is_unequal c.op) && sane_compare n c) cs) h in
-    each_join (IsOver n) (rows_of c) (rows_all cs) (compare_over n c (and_is (not (is_unequal c.op)) (sane_compare n c) a.0).1) (conjunction_over n cs a.1)
+    let a = and_parts (not (is_unequal c.op) && sane_compare n c) (list_all (λ c. not (is_unequal c.op) && sane_compare n c) cs) h in
+    each_join (IsOver n) (rows_of c) (rows_all cs) (compare_over n c (and_parts (not (is_unequal c.op)) (sane_compare n c) a.0).1) (conjunction_over n cs a.1)
 
 pub each_over : (n : ℕ) (cs : List Compare) → sane_each n cs ≡ true → Each (IsOver n) (rows_all cs)
-each_over n cs h = conjunction_over n cs (and_is (nat_le (length cs) COMPARISONS) (list_all (λ c. not (is_unequal c.op) && sane_compare n c) cs) h).1
+each_over n cs h = conjunction_over n cs (and_parts (nat_le (length cs) COMPARISONS) (list_all (λ c. not (is_unequal c.op) && sane_compare n c) cs) h).1
 
 pub all_over : (n : ℕ) (cs : List Compare) → sane_all n cs ≡ true → Each (IsOver n) (rows_all cs)
 all_over n [] h = tt

@@ -4,7 +4,8 @@ use Rattle.std.specs.Prelude.{not}
 use Rattle.std.specs.List.{AllByRecursion as Each}
 use Rattle.std.specs.Int.Signed.{≤ℤ_refl}
 use Rattle.pc_rows.specs.Linear.{Linear}
-use Rattle.pc_rows.specs.Joins.{is_covered, IsCovered as Covers, SomeIsAtMost, with_row, joined}
+use Rattle.pc_rows.specs.Joins.{is_covered, IsCovered as Covers, with_row, joined}
+use Rattle.pc_rows.proofs.Counting.{some_left, some_right}
 use Rattle.pc_rows.proofs.Joining.{covered_is, is_covered_test}
 use Rattle.pc_flow.specs.declared.what.What.{What}
 use Rattle.pc_flow.specs.declared.what.What.TheVariants.{Enter, Test, Set, Check}
@@ -22,22 +23,13 @@ use Rattle.pc_lower.proofs.Meaning.{need_is}
 
 -- more rows cover no less
 
-left_rows : (rows more : List Linear) (r : Linear) → SomeIsAtMost rows r → SomeIsAtMost (rows ++ more) r
-left_rows [] more r h = absurd h
-left_rows (a ∷ rows) more r (inl h) = inl h
-left_rows (a ∷ rows) more r (inr h) = inr (left_rows rows more r h)
-
-right_rows : (rows more : List Linear) (r : Linear) → SomeIsAtMost more r → SomeIsAtMost (rows ++ more) r
-right_rows [] more r h = h
-right_rows (a ∷ rows) more r h = inr (right_rows rows more r h)
-
 left_covers : (rows more : List Linear) (r : Linear) → Covers r rows → Covers r (rows ++ more)
 left_covers rows more r (inl h) = inl h
-left_covers rows more r (inr h) = inr (left_rows rows more r h)
+left_covers rows more r (inr h) = inr (some_left rows more r h)
 
 right_covers : (rows more : List Linear) (r : Linear) → Covers r more → Covers r (rows ++ more)
 right_covers rows more r (inl h) = inl h
-right_covers rows more r (inr h) = inr (right_rows rows more r h)
+right_covers rows more r (inr h) = inr (some_right rows more r h)
 
 -- a join covers what either list covers, and the rows of the second list
 

@@ -4,10 +4,10 @@ use Rattle.std.specs.Prelude.{◌⊎◌}
 use Rattle.std.specs.List.{AllByRecursion as Each, list_all}
 use Rattle.std.proofs.lemmas.Bool.Decides.{eqb_tells}
 use Rattle.std.proofs.lemmas.List.{get_or-set_same, get_or-set_other, ext_get_or}
+use Rattle.std.proofs.lemmas.Bool.{and_from, and_parts}
 use Rattle.pc_rows.specs.Linear.{Linear, difference_of}
 use Rattle.pc_rows.specs.Joins.{IsCovered, is_covered, with_row}
-use Rattle.pc_rows.proofs.Joining.{covered_is, is_covered_test, and_both}
-use Rattle.pc_rows.proofs.Ranges.{and_is}
+use Rattle.pc_rows.proofs.Joining.{covered_is, is_covered_test}
 use Rattle.pc_flow.specs.declared.point.PointInfo.{PointInfo}
 use Rattle.pc_flow.specs.Annotation.{rows_at}
 use Rattle.pc_flow.specs.Arc.{Arc}
@@ -35,12 +35,12 @@ use Rattle.pc_lower.proofs.Seeing.{seen_leads}
 all_told : (own rows : List Linear) → list_all (λ x. is_covered x own) rows ≡ true → Each (λ x. IsCovered x own) rows
 all_told own [] h = tt
 all_told own (x ∷ rows) h =
-    let both = and_is (is_covered x own) (list_all (λ x. is_covered x own) rows) h in
+    let both = and_parts (is_covered x own) (list_all (λ x. is_covered x own) rows) h in
     (covered_is x own both.0, all_told own rows both.1)
 
 all_test : (own rows : List Linear) → Each (λ x. IsCovered x own) rows → list_all (λ x. is_covered x own) rows ≡ true
 all_test own [] h = refl
-all_test own (x ∷ rows) h = and_both (is_covered x own) (list_all (λ x. is_covered x own) rows) (is_covered_test x own h.0) (all_test own rows h.1)
+all_test own (x ∷ rows) h = and_from (is_covered x own) (list_all (λ x. is_covered x own) rows) (is_covered_test x own h.0) (all_test own rows h.1)
 
 the_need : (g : Flow) → Each (LeadsUp g.points g.variables) g.edges → (heads a : List (List Linear)) → IsNeed g heads a → a ≡ need g heads
 the_need g leads heads a is = same_need g leads heads a (need g heads) is (need_is g leads heads)

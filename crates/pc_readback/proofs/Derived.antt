@@ -1,5 +1,5 @@
 -- Pieces whose symbols, wherever they stand, derive a tree of a language.
-use Rattle.std.proofs.Common.{◌≡◌, ℕ, ◌≤◌, ℤ, refl, ◌∙◌, ap, true, List, [], ◌∷◌, ◌++◌, Option, Some, None, inl, inr}
+use Rattle.std.proofs.Common.{◌≡◌, ℕ, ◌≤◌, ℤ, refl, ◌∙◌, ap, true, List, [], ◌∷◌, ◌++◌, Option, Some, None, inl, inr, append-nil}
 use Rattle.pc_text.specs.Bytes.{Bytes}
 use Rattle.pc_grammar.specs.declared.symbol.Symbol.{Symbol}
 use Rattle.pc_language.specs.declared.terminal.Terminal.{Terminal}
@@ -8,7 +8,6 @@ use Rattle.pc_grammar.specs.Combinators.{Text, Lang, is_map, is_both, is_either,
 use Rattle.pc_grammar.specs.Terminals.{has, is_one, is_one_of}
 use Rattle.pc_grammar.specs.Expressions.{inner}
 use Rattle.pc_grammar.specs.Statements.{optional, is_after}
-use Rattle.pc_grammar.proofs.Combinators.{append-nil}
 use Rattle.pc_show.specs.Pieces.{Piece, LineEnd, Mark, Name, Number}
 use Rattle.pc_readback.specs.Matched.{AreOf}
 use Rattle.pc_syntax.specs.Context.{word}

@@ -1,5 +1,5 @@
 -- Expressions at each level: what a level takes, a looser one takes, and parentheses make a part of the tightest.
-use Rattle.std.proofs.Common.{◌≡◌, ℕ, zero, suc, ◌≤◌, refl, sym, ◌∙◌, ap, arith, Bool, true, List, [], ◌∷◌, ◌++◌, append_assoc, None}
+use Rattle.std.proofs.Common.{◌≡◌, ℕ, zero, suc, ◌≤◌, refl, sym, ◌∙◌, ap, arith, Bool, true, List, [], ◌∷◌, ◌++◌, append_assoc, None, append-nil}
 use Rattle.pc_text.specs.Bytes.{Bytes}
 use Rattle.pc_grammar.specs.declared.symbol.Symbol.{Symbol}
 use Rattle.pc_language.specs.declared.terminal.Terminal.TheVariants as terminal
@@ -7,7 +7,6 @@ use Rattle.pc_grammar.specs.declared.tree.ExprTree.{ExprTree}
 use Rattle.pc_grammar.specs.Combinators.{Text, Lang, is_many}
 use Rattle.pc_grammar.specs.Terminals.{is_one, is_one_of}
 use Rattle.pc_grammar.specs.Expressions.{signs, product, products, sum, sums, is_atom, is_factor, is_star_factor, is_addend, is_sign_addend, is_expr_in, is_paren}
-use Rattle.pc_grammar.proofs.Combinators.{append-nil}
 use Rattle.pc_show.specs.declared.showing.level.Level.{Level}
 use Rattle.pc_show.specs.declared.showing.level.Level.TheVariants as level
 use Rattle.pc_show.specs.Pieces.{Piece, Mark}

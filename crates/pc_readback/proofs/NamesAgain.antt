@@ -1,5 +1,5 @@
 -- The symbols of the pieces of names derive them, and the walk declares them again.
-use Rattle.std.proofs.Common.{◌≡◌, ◌+◌, ◌≤◌, refl, sym, ◌∙◌, ap, subst, arith, List, [], ◌∷◌, ◌++◌, append_assoc, length, length-append, map, true, Option, Some, None, Ok}
+use Rattle.std.proofs.Common.{◌≡◌, ◌+◌, ◌≤◌, refl, sym, ◌∙◌, ap, subst, arith, List, [], ◌∷◌, ◌++◌, append_assoc, length, length-append, map, true, Option, Some, None, Ok, append-nil}
 use Rattle.std.specs.Prelude.{not, is_some}
 use Rattle.std.proofs.lemmas.Bool.{lt-ltb}
 use Rattle.pc_text.specs.Bytes.{Bytes}
@@ -12,7 +12,6 @@ use Rattle.pc_grammar.specs.Combinators.{is_both, is_many, is_maybe, is_map}
 use Rattle.pc_grammar.specs.Terminals.{is_one}
 use Rattle.pc_grammar.specs.Statements.{seconds, all_items}
 use Rattle.pc_grammar.specs.Programs as grammar
-use Rattle.pc_grammar.proofs.Combinators.{append-nil}
 use Rattle.pc_show.specs.Pieces.{Blank, LineEnd, Mark, Name}
 use Rattle.pc_show.specs.Canonical.{further_names, names_pieces, locals_pieces}
 use Rattle.pc_syntax.specs.Context.{word, declared_after}

@@ -2,6 +2,7 @@
 use Rattle.std.proofs.Common.{◌≡◌, ◌≢◌, ℕ, zero, suc, ◌+◌, ◌≤◌, ◌<◌, ℤ, pos, refl, sym, ◌∙◌, ap, arith, List, [], ◌∷◌, length, get_or, drop, Bool, true, false, cond, Option, Some, None, IfSome}
 use Rattle.std.specs.Prelude.{int_lt}
 use Rattle.pc_rows.specs.Linear.{is_zero}
+use Rattle.pc_rows.proofs.Tests.{not_zero}
 use Rattle.pc_simplex.specs.declared.label.Label.{Label}
 use Rattle.pc_simplex.specs.declared.label.Label.TheVariants.{Variable, Row}
 use Rattle.pc_simplex.specs.Values.{Line, Pick}
@@ -48,12 +49,6 @@ pub leaving_is_line : (ls : List Line) → IfSome (first_of (leaving_each ls)) (
 leaving_is_line ls = first_has (λ j. j < length ls) 0 None (leaving_each ls) tt (leaving_within (length ls) 0 ls (omega arith))
 
 -- columns
-
-not_zero : (x : ℤ) → is_zero x ≡ false → x ≢ pos 0
-not_zero x e z = clash (ap is_zero (sym z) ∙ e)
-  where
-    clash : is_zero (pos 0) ≡ false → ⊥
-    clash h = cc
 
 above_zero : (x : ℤ) → int_lt (pos 0) x ≡ true → x ≢ pos 0
 above_zero x e z = clash (ap (int_lt (pos 0)) (sym z) ∙ e)

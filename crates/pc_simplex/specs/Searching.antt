@@ -4,17 +4,13 @@ use Rattle.std.specs.List.{AllByRecursion}
 use Rattle.pc_rows.specs.declared.rows.NoMemory.{NoMemory}
 use Rattle.pc_rows.specs.Linear.{Linear}
 use Rattle.pc_rows.specs.Evidence.{System, Proof, Point as Place}
-use Rattle.pc_rows.specs.Shows.{Shows, TotalFits}
+use Rattle.pc_rows.specs.Shows.{Shows}
+pub use Rattle.pc_rows.specs.Shows.{IsEvidence}
 use Rattle.pc_rows.specs.Points.{Refutes, MeetsAt, NumeratorFits}
 use Rattle.pc_rows.specs.Modest.{refuting}
 use Rattle.pc_simplex.specs.declared.guess.Guess.{Guess}
 use Rattle.pc_simplex.specs.declared.guess.Guess.TheVariants.{Shown, Point, GaveUp}
 use Rattle.pc_simplex.specs.Turns.{found}
-
--- the proof shows the goal from the premises, and its total is computed in range
-pub record IsEvidence (s : System) (p : Proof) : Type 0 where
-  pub shows : Shows s.premises s.goal p
-  pub fits : TotalFits s.premises s.goal p
 
 -- the row is met at the point, and its sign there is computed in range
 pub record IsTold (p : Place) (r : Linear) : Type 0 where

@@ -2,7 +2,8 @@ use Rattle.std.proofs.Common.{◌≡◌, ◌<◌, ◌+◌, ◌∙◌, ap, sym, a
 use Rattle.std.proofs.lemmas.Result.{err_from_is_err_and}
 use Rattle.pc_rows.specs.declared.system.TheConstants.{PREMISES}
 use Rattle.pc_cert.specs.LineReaders.{next_part, parts_from}
-use Rattle.pc_cert.proofs.PartSteps.{IsNext, next_is, next_fault, above_more, above_next}
+use Rattle.pc_rows.proofs.Rising.{above_more}
+use Rattle.pc_cert.proofs.PartSteps.{IsNext, next_is, next_fault, above_next}
 use Rattle.pc_cert.proofs.Told.{handed_on}
 use Rattle.pc_cert.proofs.proof_lines.parts.Goals as goal
 
