@@ -171,11 +171,11 @@ pub fn push_point(alloc: Global, text: &mut Text, point: &Point) -> Result<(), F
 fn last_of(point: &Point) -> u32
     ensures { result ≤ VARIABLES }
 {
-    let mut last = 0;
-    for variable in 0..VARIABLES as u32 {
-        if point.numerator(variable) != 0 {
-            last = variable + 1;
+    for above in 0..VARIABLES as u32 {
+        let last = VARIABLES as u32 - above;
+        if point.numerator(last - 1) != 0 {
+            return last;
         }
     }
-    last
+    0
 }

@@ -1,6 +1,6 @@
 //! The texts that a call by itself is about.
 
-ghost use Rattle.std.specs.Prelude.{◌≤◌, length, IfOk};
+ghost use Rattle.std.specs.Prelude.{◌<◌, ◌-◌, ◌^◌, length, IfOk};
 
 use crate::alone::numbers::{number_of, row_of, rows_of};
 use crate::fault::Fault;
@@ -26,7 +26,7 @@ impl Texts {
 
     /// The bytes of the text of this name.
     pub fn bytes(&mut self, alloc: Global, name: &str) -> Result<Vec<u8>, Fault>
-        ensures { IfOk result (λ bytes. length bytes ≤ TEXT_BYTES) }
+        ensures { IfOk result (λ bytes. length bytes.items < 2 ^ 32 - 1) }
     {
         match self.store.fetch(alloc, name, TEXT_BYTES) {
             Ok(bytes) if bytes.len() <= TEXT_BYTES => Ok(bytes),
