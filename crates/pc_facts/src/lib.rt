@@ -1,0 +1,7 @@
+//! What is known at each point of a graph, as text: one line for each point.
+#![tactic(auto)]
+
+mod lines;
+mod rows;
+
+pub use lines::show_facts;
