@@ -12,10 +12,10 @@ use Rattle.pc_rows.specs.declared.system.TheConstants.{PREMISES}
 use Rattle.pc_language.specs.declared.limits.TheConstants.{EDGES}
 use Rattle.pc_program.specs.declared.program.Program.{Program}
 use Rattle.pc_program.specs.Sane.{is_sane, sane_stmts, edges_of}
+use Rattle.pc_flow.specs.Shape.{NoHeads}
 use Rattle.pc_graph.specs.Lowering.{graph}
 use Rattle.pc_graph.proofs.LoopFree.{loop_free_graphs}
 use Rattle.pc_graph.proofs.StraightLoops.{straight_is_loop_free}
-use Rattle.pc_lower.specs.Annotation.{NoHeads}
 use Rattle.pc_certificate.specs.declared.certificate.Annotated.{Annotated}
 use Rattle.pc_certificate.specs.declared.certificate.TheConstants.{POINTS}
 use Rattle.pc_certificate.specs.Certificate.{Certificate, entry_rows, condition_of, SaysOf}

@@ -11,8 +11,8 @@ use Rattle.pc_flow.specs.Arc.{Arc}
 use Rattle.pc_flow.specs.Flow.{Flow}
 use Rattle.pc_flow.specs.Incidence.{entering}
 use Rattle.pc_flow.specs.Lists.{In}
-use Rattle.pc_flow.specs.Shape.{IsGraph}
-use Rattle.pc_domain.specs.Fold.{Brings, Folds, FlowsTo, IsFold, NoHeads}
+use Rattle.pc_flow.specs.Shape.{NoHeads, IsGraph}
+use Rattle.pc_domain.specs.Fold.{Brings, Folds, FlowsTo, IsFold}
 use Rattle.pc_domain.specs.View.{View}
 use Rattle.pc_domain.proofs.Heads.{always_rises, has_entry}
 use Rattle.pc_domain.proofs.Options.{some_is}

@@ -5,7 +5,7 @@ use Rattle.std.specs.List.{AllByRecursion as Each}
 use Rattle.std.proofs.lemmas.Bool.Decides.{eqb_tells}
 use Rattle.std.proofs.lemmas.Int.{ints}
 use Rattle.std.proofs.lemmas.List.{drop_all}
-use Rattle.pc_domain.proofs.Places.{drop_got}
+use Rattle.pc_rows.proofs.Adding.{drop_got}
 use Rattle.pc_rows.specs.Laws.{at}
 use Rattle.pc_rows.specs.Linear.{Linear, State, Meets, MeetsAll}
 use Rattle.pc_rows.specs.Readers.{terms_of, sum_over}

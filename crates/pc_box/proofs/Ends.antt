@@ -2,6 +2,7 @@
 use Rattle.std.proofs.Common.{◌≡◌, ℕ, zero, suc, ◌<◌, ◌≤◌, ℤ, pos, negsuc, ◌+ℤ◌, ◌*ℤ◌, neg_ℤ, ◌≤ℤ◌, Bool, true, false, cond, Option, Some, None, refl, sym, subst, arith, inl, inr}
 use Rattle.std.specs.Prelude.{◌⊎◌, ◌↔◌, ◌&&◌, int_lt}
 use Rattle.std.specs.Int.{int_div_euclid}
+use Rattle.std.proofs.lemmas.Bool.{and_parts}
 use Rattle.std.proofs.lemmas.Int.{ints}
 use Rattle.pc_rows.specs.Substitution.{IsNotBelow, IsNotAbove}
 use Rattle.pc_box.specs.declared.interval.Interval.{Interval}
@@ -55,10 +56,6 @@ in_steady i j x (inr h) = (not_below_steady i.least j.least x (inr h.0), not_abo
 
 -- ---- intervals within others
 
-both_true : (a b : Bool) → (a && b) ≡ true → (a ≡ true) × (b ≡ true)
-both_true true b h = (refl, h)
-both_true false b h = absurd (cc)
-
 not_below_within : (n m : Option ℤ) (x : ℤ) → least_within n m ≡ true → IsNotBelow n x → IsNotBelow m x
 not_below_within n None x w h = tt
 not_below_within None (Some m) x w h = absurd (cc)
@@ -71,7 +68,7 @@ not_above_within (Some n) (Some m) x w h = grind (arith, ints)
 
 pub in_within : (i j : Interval) (x : ℤ) → is_within i j ≡ true → Holds i x → Holds j x
 in_within i j x w h =
-    let both = both_true (least_within i.least j.least) (greatest_within i.greatest j.greatest) w in
+    let both = and_parts (least_within i.least j.least) (greatest_within i.greatest j.greatest) w in
     (not_below_within i.least j.least x both.0 h.0, not_above_within i.greatest j.greatest x both.1 h.1)
 
 -- ---- how many ends stay

@@ -3,7 +3,7 @@ use Rattle.std.proofs.Common.{◌≡◌, ◌∙◌, ℕ, zero, suc, ◌+◌, dro
 use Rattle.std.specs.Prelude.{int_lt}
 use Rattle.std.proofs.lemmas.Int.{ints}
 use Rattle.std.proofs.Math.IntN.{zero-*ℤ}
-use Rattle.pc_domain.proofs.Places.{drop_got}
+use Rattle.pc_rows.proofs.Adding.{drop_got}
 use Rattle.pc_rows.specs.Laws.{at}
 use Rattle.pc_rows.specs.Linear.{Linear, State, value, in_range}
 use Rattle.pc_rows.specs.Readers.{terms_of, sum_over}

@@ -6,6 +6,7 @@ use Rattle.std.proofs.Math.IntN.{zero-*ℤ, *ℤ-zero, +ℤ_idr}
 use Rattle.pc_rows.specs.Linear.{Linear, State, value, dot, is_zero}
 use Rattle.pc_rows.specs.Readers.{terms_from, terms_of, sum_over}
 use Rattle.pc_rows.proofs.Lists.{zero_is}
+use Rattle.pc_rows.proofs.Tests.{not_zero}
 
 -- the numbers of the one list are those of the other from place v on
 abbrev IsFrom : ℕ → List ℤ → List ℤ → Type 0
@@ -53,9 +54,6 @@ walk v sum (c ∷ cs) (x ∷ rest) xs from = by (is_zero c) refl (λ s. walk (v 
 pub value_is_walk : (r : Linear) (s : State) → value r s ≡ sum_over r.constant (terms_of r) s
 value_is_walk r s = walk 0 r.constant r.coefficients s s (λ k. let e : k ≡ 0 + k = omega arith in ap (λ (n : ℕ). get_or s n (pos 0)) e)
 
-zero_tells : (c : ℤ) → is_zero c ≡ false → c ≢ pos 0
-zero_tells c e same = let f = ap is_zero same in let t : is_zero (pos 0) ≡ true = refl in cc
-
 -- the coefficients of the terms are not 0
 terms_count : (v : ℕ) (cs : List ℤ) → Each (λ t. t.1 ≢ pos 0) (terms_from v cs)
 terms_count v [] = tt
@@ -63,7 +61,7 @@ terms_count v (c ∷ cs) = by (is_zero c) refl (terms_count (v + 1) cs)
   where
     by : (b : Bool) → is_zero c ≡ b → Each (λ t. t.1 ≢ pos 0) (terms_from (v + 1) cs) → Each (λ t. t.1 ≢ pos 0) (cond b (terms_from (v + 1) cs) ((v, c) ∷ terms_from (v + 1) cs))
     by true e go = go
-    by false e go = (zero_tells c e, go)
+    by false e go = (not_zero c e, go)
 
 pub terms_are_some : (r : Linear) → Each (λ t. t.1 ≢ pos 0) (terms_of r)
 terms_are_some r = terms_count 0 r.coefficients

@@ -1,8 +1,8 @@
 -- What boxes promise beyond the laws of domains.
 use Rattle.std.specs.Prelude.{◌≡◌, ◌≢◌, ◌↔◌, ℕ, ◌<◌, ℤ, pos, ◌+ℤ◌, ◌*ℤ◌, ◌≤ℤ◌, List, map, Some, length, slice_get}
 use Rattle.pc_flow.specs.Flow.{Flow}
-use Rattle.pc_flow.specs.Shape.{IsGraph}
-use Rattle.pc_domain.specs.Fold.{NoHeads, IsFold}
+use Rattle.pc_flow.specs.Shape.{NoHeads, IsGraph}
+use Rattle.pc_domain.specs.Fold.{IsFold}
 use Rattle.pc_domain.specs.View.{View}
 use Rattle.pc_box.specs.declared.interval.Interval.{Interval}
 use Rattle.pc_box.specs.Intervals.{Holds, cut}

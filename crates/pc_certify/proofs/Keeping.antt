@@ -7,9 +7,10 @@ use Rattle.pc_rows.specs.Linear.{State, MeetsAll, MeetsSome}
 use Rattle.pc_flow.specs.Annotation.{Annotation, rows_at}
 use Rattle.pc_flow.specs.Flow.{Flow}
 use Rattle.pc_flow.proofs.Lists.{each_more}
+use Rattle.pc_flow.specs.Shape.{NoHeads}
 use Rattle.pc_lower.specs.declared.mode.Mode.{Mode}
 use Rattle.pc_lower.specs.declared.mode.Mode.TheVariants.{Hint, Plain, Tilt1, Tilt2, Escape}
-use Rattle.pc_lower.specs.Annotation.{no_rows, NoHeads}
+use Rattle.pc_lower.specs.Annotation.{no_rows}
 use Rattle.pc_lower.specs.Candidate.{candidate, heads_by}
 use Rattle.pc_lower.specs.Tame.{AreTame, IsTame}
 use Rattle.pc_lower.specs.TameCourse.{IsTameFor}

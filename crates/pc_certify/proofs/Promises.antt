@@ -14,9 +14,10 @@ use Rattle.pc_flow.specs.Carry.{back, owes, test_rows, premises, asked}
 use Rattle.pc_flow.specs.Flow.{Flow}
 use Rattle.pc_flow.specs.Lists.{AnyOf}
 use Rattle.pc_flow.proofs.Asked.{owed_is_asked}
+use Rattle.pc_flow.specs.Shape.{NoHeads}
 use Rattle.pc_entail.specs.Showing.{question, IsShown}
 use Rattle.pc_lower.specs.declared.mode.Mode.{Mode}
-use Rattle.pc_lower.specs.Annotation.{is_head, NoHeads}
+use Rattle.pc_lower.specs.Annotation.{is_head}
 use Rattle.pc_lower.specs.Candidate.{candidate}
 use Rattle.pc_lower.specs.Tame.{tame_bound, HasTameNumbers, AreTame, IsTame}
 use Rattle.pc_lower.proofs.Paying.{no_head}

@@ -2,9 +2,10 @@
 use Rattle.std.specs.Prelude.{◌≡◌, ◌⊎◌, List}
 use Rattle.pc_flow.specs.Annotation.{Annotation}
 use Rattle.pc_flow.specs.Flow.{Flow}
+use Rattle.pc_flow.specs.Shape.{NoHeads}
 use Rattle.pc_lower.specs.declared.fault.CandidateFault.TheVariants.{Past, Full}
 use Rattle.pc_lower.specs.declared.mode.Mode.{Mode}
-use Rattle.pc_lower.specs.Annotation.{no_rows, NoHeads}
+use Rattle.pc_lower.specs.Annotation.{no_rows}
 use Rattle.pc_lower.specs.Candidate.{candidate}
 use Rattle.pc_lower.specs.Course.{candidate_operations}
 use Rattle.pc_lower.specs.Need.{need}

@@ -5,8 +5,8 @@ use Rattle.pc_rows.specs.declared.rows.NoMemory.{NoMemory}
 use Rattle.pc_rows.specs.Linear.{Linear, State, MeetsAll, MeetsSome}
 use Rattle.pc_flow.specs.Annotation.{Annotation, rows_at}
 use Rattle.pc_flow.specs.Flow.{Flow}
+use Rattle.pc_flow.specs.Shape.{NoHeads}
 use Rattle.pc_lower.specs.declared.mode.Mode.{Mode}
-use Rattle.pc_lower.specs.Annotation.{NoHeads}
 use Rattle.pc_lower.specs.Candidate.{candidate}
 use Rattle.pc_lower.specs.Tame.{IsTame}
 use Rattle.pc_certificate.specs.declared.certificate.Annotated.{Annotated}

@@ -5,9 +5,8 @@ use Rattle.pc_rows.specs.Linear.{MeetsSome}
 use Rattle.pc_rows.specs.Linear.{State}
 use Rattle.pc_flow.specs.Exact.{StraightEdge}
 use Rattle.pc_flow.specs.Flow.{Flow}
-use Rattle.pc_flow.specs.Shape.{IsGraph}
+use Rattle.pc_flow.specs.Shape.{NoHeads, IsGraph}
 use Rattle.pc_flow.specs.Walk.{IsEntry, Breaks}
-use Rattle.pc_lower.specs.Annotation.{NoHeads}
 use Rattle.pc_lower.specs.Tame.{IsTame}
 use Rattle.pc_certificate.specs.Certificate.{Certificate, condition_of}
 use Rattle.pc_certify.specs.Inferring.{IsExact}

@@ -1,6 +1,6 @@
 //! The alternative of a candidate.
 
-ghost use Rattle.pc_lower.specs.Annotation.{NoHeads};
+ghost use Rattle.pc_flow.specs.Shape.{NoHeads};
 ghost use Rattle.pc_lower.specs.Laws.{IsComplete};
 ghost use Rattle.pc_lower.specs.Tame.{IsTame};
 ghost use Rattle.pc_certify.specs.Candidates.{of_need, of_mode, IsPromised};

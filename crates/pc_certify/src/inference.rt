@@ -2,9 +2,8 @@
 
 ghost use Rattle.std.specs.Prelude.{◌≡◌, ◌≤◌, [], true, false, length, IfOk};
 ghost use Rattle.std.specs.List.{AllByRecursion};
-ghost use Rattle.pc_flow.specs.Shape.{IsGraph};
+ghost use Rattle.pc_flow.specs.Shape.{NoHeads, IsGraph};
 ghost use Rattle.pc_lower.specs.declared.mode.Mode.{Mode};
-ghost use Rattle.pc_lower.specs.Annotation.{NoHeads};
 ghost use Rattle.pc_certificate.specs.Certificate.{IsShowable, condition_of};
 ghost use Rattle.pc_replay.specs.Accepts.{Accepts};
 ghost use Rattle.pc_replay.specs.Laws.{IsSafe};

@@ -2,7 +2,7 @@
 
 ghost use Rattle.std.specs.Prelude.{IfOk};
 ghost use Rattle.std.specs.List.{AllByRecursion};
-ghost use Rattle.pc_lower.specs.Annotation.{NoHeads};
+ghost use Rattle.pc_flow.specs.Shape.{NoHeads};
 ghost use Rattle.pc_certify.specs.Selecting.{HasEntry};
 ghost use Rattle.pc_certify.specs.Inferring.{Takes, AreAlternatives};
 

@@ -3,11 +3,11 @@ use Rattle.std.proofs.Common.{◌≡◌, ℕ, ◌+◌, ◌≤◌, List, [], ◌�
 use Rattle.std.specs.Option.{option_map}
 use Rattle.std.proofs.lemmas.List.{drop_all}
 use Rattle.std.proofs.lemmas.Option.{slice_get-map}
+use Rattle.pc_rows.proofs.Adding.{drop_got}
 use Rattle.pc_flow.specs.declared.what.What.{What}
 use Rattle.pc_flow.specs.Arc.{Arc}
 use Rattle.pc_flow.specs.Lists.{In}
 use Rattle.pc_domain.specs.Fold.{Brings, Folds}
-use Rattle.pc_domain.proofs.Places.{drop_got}
 
 module _ {V : Type 0} (leads : V → What → V → Type 0) (joins : V → V → V → Type 0) (end : Arc → ℕ) where
   -- what the edges from place k on make of v is what all of them make of the start

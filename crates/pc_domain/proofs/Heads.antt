@@ -5,9 +5,8 @@ use Rattle.pc_flow.specs.declared.point.PointInfo.{PointInfo}
 use Rattle.pc_flow.specs.Arc.{Arc}
 use Rattle.pc_flow.specs.Flow.{Flow}
 use Rattle.pc_flow.specs.Lists.{In}
-use Rattle.pc_flow.specs.Shape.{IsGraph, IsHead, LeadsUp}
+use Rattle.pc_flow.specs.Shape.{NoHeads, IsGraph, IsHead, LeadsUp}
 use Rattle.pc_flow.proofs.Lists.{each_at, each_got}
-use Rattle.pc_domain.specs.Fold.{NoHeads}
 
 no_head : (points : List PointInfo) (p : ℕ) → NoHeads points → p < length points → IsHead points p → ⊥
 no_head [] p none lt head = absurd (omega arith)

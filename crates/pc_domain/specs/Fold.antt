@@ -1,16 +1,10 @@
 -- Folds over edges in order, and the fold of views over a graph without loops.
-use Rattle.std.specs.Prelude.{◌≡◌, ℕ, ◌<◌, List, [], ◌∷◌, Option, Some, None, IsSomeAnd, false, length, slice_get}
-use Rattle.std.specs.List.{AllByRecursion as Each}
+use Rattle.std.specs.Prelude.{◌≡◌, ℕ, ◌<◌, List, [], ◌∷◌, Option, Some, None, IsSomeAnd, length, slice_get}
 use Rattle.pc_flow.specs.declared.what.What.{What}
 use Rattle.pc_flow.specs.Arc.{Arc}
 use Rattle.pc_flow.specs.Flow.{Flow}
-use Rattle.pc_flow.specs.Incidence.{entering}
-use Rattle.pc_flow.specs.declared.point.PointInfo.{PointInfo}
-use Rattle.pc_domain.specs.View.{View, Relations}
-
--- there are no loops
-abbrev pub NoHeads : List PointInfo → Type 0
-NoHeads points = Each (λ point. point.head ≡ false) points
+use Rattle.pc_flow.specs.Incidence.{entering, leaving}
+use Rattle.pc_domain.specs.View.{View, Relations, BackRelations}
 
 -- what an edge from a point makes of the value so far: what it leads to is joined, and nothing where the point has no value yet
 abbrev pub Brings : {V : Type 0} → (V → What → V → Type 0) → (V → V → V → Type 0) → Option V → What → V → V → Type 0
@@ -32,3 +26,12 @@ pub record IsFold (r : Relations) (g : Flow) (views : List View) : Type 0 where
   pub long : length views ≡ length g.points
   pub entry : IsSomeAnd (slice_get views 0) (r.everything g.variables)
   pub points : (p : ℕ) → 0 < p → p < length g.points → IsSomeAnd (slice_get views p) (FlowsTo r g views p)
+
+-- the fold of the edges that leave point p, beginning from everything
+abbrev pub EbbsTo : BackRelations → Flow → List View → ℕ → View → Type 0
+EbbsTo r g views p w = (v : View) × r.everything g.variables v × Folds r.before r.both (λ e. e.to) views (leaving p g.edges) v w
+
+-- views for each point, each the fold of the edges that leave it
+pub record IsBackFold (r : BackRelations) (g : Flow) (views : List View) : Type 0 where
+  pub long : length views ≡ length g.points
+  pub points : (p : ℕ) → p < length g.points → IsSomeAnd (slice_get views p) (EbbsTo r g views p)

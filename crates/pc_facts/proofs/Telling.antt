@@ -9,8 +9,9 @@ use Rattle.pc_rows.specs.Linear.{Linear, State, MeetsAll}
 use Rattle.pc_flow.specs.Flow.{Flow}
 use Rattle.pc_flow.specs.Walk.{Reach}
 use Rattle.pc_flow.specs.declared.point.PointInfo.{PointInfo}
+use Rattle.pc_flow.specs.Shape.{NoHeads}
 use Rattle.pc_domain.specs.declared.forward.Forward.{Ghosts}
-use Rattle.pc_domain.specs.Fold.{NoHeads, IsFold}
+use Rattle.pc_domain.specs.Fold.{IsFold}
 use Rattle.pc_domain.specs.Values.{HasAt}
 use Rattle.pc_domain.proofs.Options.{some_is, is_some}
 use Rattle.pc_domain.proofs.Places.{got_before, got_last}

@@ -4,8 +4,9 @@ use Rattle.pc_text.specs.Bytes.{Bytes}
 use Rattle.pc_rows.specs.Linear.{Linear, State, MeetsAll}
 use Rattle.pc_flow.specs.Flow.{Flow}
 use Rattle.pc_flow.specs.Walk.{Reach}
+use Rattle.pc_flow.specs.Shape.{NoHeads}
 use Rattle.pc_domain.specs.declared.forward.Forward.{Ghosts}
-use Rattle.pc_domain.specs.Fold.{NoHeads, IsFold}
+use Rattle.pc_domain.specs.Fold.{IsFold}
 use Rattle.pc_domain.specs.View.{View, Relations}
 use Rattle.pc_facts.specs.Lines.{lines_from}
 

@@ -9,9 +9,9 @@ use Rattle.pc_flow.specs.Arc.{Arc}
 use Rattle.pc_flow.specs.Flow.{Flow}
 use Rattle.pc_flow.specs.Incidence.{entering}
 use Rattle.pc_flow.specs.Lists.{In}
-use Rattle.pc_flow.specs.Shape.{IsGraph}
+use Rattle.pc_flow.specs.Shape.{NoHeads, IsGraph}
 use Rattle.pc_domain.specs.declared.forward.Forward.{Ghosts}
-use Rattle.pc_domain.specs.Fold.{NoHeads, FlowsTo, IsFold}
+use Rattle.pc_domain.specs.Fold.{FlowsTo, IsFold}
 use Rattle.pc_domain.proofs.Folding.{folds_alike, folds_seen}
 use Rattle.pc_domain.proofs.Options.{some_more, some_is, is_some}
 use Rattle.pc_domain.proofs.Picking.{picked_in}

@@ -5,8 +5,7 @@ use Rattle.pc_flow.specs.declared.point.PointInfo.{PointInfo}
 use Rattle.pc_flow.specs.Arc.{Arc}
 use Rattle.pc_flow.specs.Flow.{Flow}
 use Rattle.pc_flow.specs.Lists.{In}
-use Rattle.pc_flow.specs.Shape.{IsGraph, IsHead}
-use Rattle.pc_domain.specs.Fold.{NoHeads}
+use Rattle.pc_flow.specs.Shape.{NoHeads, IsGraph, IsHead}
 use Rattle.pc_domain.proofs.Heads.{rises_unless, has_entry}
 use Rattle.pc_fixpoint.specs.Flowing.{heads}
 

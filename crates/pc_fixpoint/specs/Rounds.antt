@@ -2,8 +2,8 @@
 use Rattle.std.specs.Prelude.{◌≡◌, ℕ, ◌+◌, ◌<◌, ◌≤◌, List, [], ◌∷◌, Bool, true, false, Some, IsSomeAnd, slice_get, slice_set, length}
 use Rattle.pc_rows.specs.Linear.{State}
 use Rattle.pc_flow.specs.Flow.{Flow}
+use Rattle.pc_flow.specs.Shape.{NoHeads}
 use Rattle.pc_domain.specs.declared.forward.Forward.{Ghosts}
-use Rattle.pc_domain.specs.Fold.{NoHeads}
 use Rattle.pc_domain.specs.Values.{HasAt}
 use Rattle.pc_fixpoint.specs.Flowing.{heads, Gathered}
 

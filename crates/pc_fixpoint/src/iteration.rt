@@ -3,7 +3,8 @@
 ghost use Rattle.std.specs.Prelude.{◌≡◌, ℕ, length, map, IfOk, OnOk};
 ghost use Rattle.pc_rows.specs.Linear.{State};
 ghost use Rattle.pc_flow.specs.Walk.{Reach};
-ghost use Rattle.pc_domain.specs.Fold.{NoHeads, IsFold};
+ghost use Rattle.pc_flow.specs.Shape.{NoHeads};
+ghost use Rattle.pc_domain.specs.Fold.{IsFold};
 ghost use Rattle.pc_domain.specs.Values.{HasAt, IsConsistent};
 ghost use Rattle.pc_fixpoint.specs.Flowing.{heads, Filled};
 ghost use Rattle.pc_fixpoint.specs.Rounds.{weight};

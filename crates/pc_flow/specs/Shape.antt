@@ -15,6 +15,10 @@ WhatIsOver variables (Test rows) = Each (IsOver variables) rows
 WhatIsOver variables (Set x form lo hi) = (x < variables) × IsOver variables form
 WhatIsOver variables (Check rows) = Each (IsOver variables) rows
 
+-- there are no loops
+abbrev pub NoHeads : List PointInfo → Type 0
+NoHeads points = Each (λ point. point.head ≡ false) points
+
 -- the point is the head of a loop
 abbrev pub IsHead : List PointInfo → ℕ → Type 0
 IsHead points p = IfSome (slice_get points p) (λ point. point.head ≡ true)

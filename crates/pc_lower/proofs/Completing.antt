@@ -5,11 +5,11 @@ use Rattle.std.specs.List.{AllByRecursion as Each}
 use Rattle.pc_rows.specs.Linear.{Linear}
 use Rattle.pc_rows.specs.declared.rows.TheConstants.{ROWS}
 use Rattle.pc_flow.specs.Flow.{Flow}
-use Rattle.pc_flow.specs.Shape.{IsGraph}
+use Rattle.pc_flow.specs.Shape.{NoHeads, IsGraph}
 use Rattle.pc_lower.specs.declared.fault.CandidateFault.{CandidateFault}
 use Rattle.pc_lower.specs.declared.fault.CandidateFault.TheVariants.{Past, Full, NoMemory}
 use Rattle.pc_flow.specs.Annotation.{rows_at}
-use Rattle.pc_lower.specs.Annotation.{is_head, AreFew, AreOver, NoHeads}
+use Rattle.pc_lower.specs.Annotation.{is_head, AreFew, AreOver}
 use Rattle.pc_flow.specs.Incidence.{leaving}
 use Rattle.pc_lower.specs.Need.{needed_at, at_heads, filled, filled_below, need}
 use Rattle.pc_lower.specs.Operations.{Operation, Fits, Answers, edges_operations, operations_below, operations}

@@ -7,9 +7,9 @@ use Rattle.pc_rows.specs.Linear.{Linear}
 use Rattle.pc_flow.specs.declared.point.PointInfo.{PointInfo}
 use Rattle.pc_flow.specs.Arc.{Arc}
 use Rattle.pc_flow.specs.Flow.{Flow}
-use Rattle.pc_flow.specs.Shape.{LeadsUp}
+use Rattle.pc_flow.specs.Shape.{NoHeads, LeadsUp}
 use Rattle.pc_flow.specs.Annotation.{rows_at}
-use Rattle.pc_lower.specs.Annotation.{is_head, NoHeads}
+use Rattle.pc_lower.specs.Annotation.{is_head}
 use Rattle.pc_flow.specs.Incidence.{leaving}
 use Rattle.pc_lower.specs.Need.{gathered, needed_at, at_heads, filled_below, need, IsNeed}
 use Rattle.pc_lower.specs.Laws.{NeedIsMeant, NeedIsFree}

@@ -16,13 +16,13 @@ use Rattle.pc_flow.specs.Arc.{Arc}
 use Rattle.pc_flow.specs.Carry.{back_all, owes, test_rows, HasVariable, Pays}
 use Rattle.pc_flow.specs.Exact.{PointRows}
 use Rattle.pc_flow.specs.Lists.{In}
-use Rattle.pc_flow.specs.Shape.{LeadsUp}
+use Rattle.pc_flow.specs.Shape.{NoHeads, LeadsUp}
 use Rattle.pc_flow.specs.Walk.{Pass}
 use Rattle.pc_flow.proofs.Carrying.{chosen_ordered}
 use Rattle.pc_flow.proofs.Lists.{each_at, each_in, in_either}
 use Rattle.pc_flow.proofs.Assigning.{has_variable}
 use Rattle.pc_flow.specs.Annotation.{rows_at}
-use Rattle.pc_lower.specs.Annotation.{is_head, NoHeads}
+use Rattle.pc_lower.specs.Annotation.{is_head}
 use Rattle.pc_flow.specs.Incidence.{leaving}
 use Rattle.pc_lower.specs.Need.{demanded, gathered, need}
 use Rattle.pc_lower.specs.Laws.{NeedIsPaid, NeedIsOwed}

@@ -5,10 +5,11 @@ use Rattle.pc_rows.specs.Linear.{Linear}
 use Rattle.pc_rows.proofs.Joining.{each_join}
 use Rattle.pc_flow.specs.Annotation.{rows_at}
 use Rattle.pc_flow.specs.Flow.{Flow}
+use Rattle.pc_flow.specs.Shape.{NoHeads}
 use Rattle.pc_lower.specs.declared.mode.Mode.{Mode}
 use Rattle.pc_lower.specs.declared.mode.Mode.TheVariants.{Hint, Plain, Tilt1, Tilt2, Escape}
 use Rattle.pc_lower.specs.declared.rounds.TheConstants.{ROUNDS}
-use Rattle.pc_lower.specs.Annotation.{NoHeads, no_rows}
+use Rattle.pc_lower.specs.Annotation.{no_rows}
 use Rattle.pc_lower.specs.Candidate.{turned, turn, turns_below, heads_by}
 use Rattle.pc_lower.specs.Need.{need}
 use Rattle.pc_lower.specs.Tame.{AreTame}

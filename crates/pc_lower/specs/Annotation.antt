@@ -21,7 +21,3 @@ AreFew a = Each (λ rows. length rows ≤ ROWS) a
 -- whether point p is the head of a loop
 abbrev pub is_head : List PointInfo → ℕ → Bool
 is_head points p = option_map_or (λ point. point.head) (slice_get points p) false
-
--- there are no loops
-abbrev pub NoHeads : List PointInfo → Type 0
-NoHeads points = Each (λ point. point.head ≡ false) points

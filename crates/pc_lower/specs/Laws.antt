@@ -8,11 +8,11 @@ use Rattle.pc_flow.specs.Carry.{owes, test_rows}
 use Rattle.pc_flow.specs.Exact.{PointRows, IsPaid, IsOwed}
 use Rattle.pc_flow.specs.Flow.{Flow}
 use Rattle.pc_flow.specs.Lists.{In}
-use Rattle.pc_flow.specs.Shape.{IsGraph}
+use Rattle.pc_flow.specs.Shape.{NoHeads, IsGraph}
 use Rattle.pc_lower.specs.declared.fault.CandidateFault.{CandidateFault}
 use Rattle.pc_lower.specs.declared.fault.CandidateFault.TheVariants.{Past, Full, NoMemory}
 use Rattle.pc_flow.specs.Annotation.{rows_at}
-use Rattle.pc_lower.specs.Annotation.{AreOver, is_head, NoHeads}
+use Rattle.pc_lower.specs.Annotation.{AreOver, is_head}
 use Rattle.pc_lower.specs.Need.{need, IsNeed}
 use Rattle.pc_lower.specs.Operations.{Fits, operations}
 use Rattle.pc_lower.specs.Tame.{IsTame}

@@ -9,11 +9,11 @@ use Rattle.pc_flow.specs.Carry.{owes, test_rows}
 use Rattle.pc_flow.specs.Exact.{PointRows}
 use Rattle.pc_flow.specs.Flow.{Flow}
 use Rattle.pc_flow.specs.Incidence.{leaving}
-use Rattle.pc_flow.specs.Shape.{IsGraph}
+use Rattle.pc_flow.specs.Shape.{NoHeads, IsGraph}
 use Rattle.pc_lower.specs.declared.mode.Mode.{Mode}
 use Rattle.pc_lower.specs.declared.mode.Mode.TheVariants.{Hint, Plain, Tilt1, Tilt2, Escape}
 use Rattle.pc_lower.specs.declared.rounds.TheConstants.{ROUNDS}
-use Rattle.pc_lower.specs.Annotation.{is_head, no_rows, NoHeads}
+use Rattle.pc_lower.specs.Annotation.{is_head, no_rows}
 use Rattle.pc_lower.specs.Candidate.{alone, with_owed, with_edge_owed, turned, turn, turns_below, candidate}
 use Rattle.pc_lower.specs.Course.{candidate_operations}
 use Rattle.pc_lower.specs.Need.{need}

@@ -1,7 +1,8 @@
 //! Annotations that are completed from the rows of the heads.
 
 ghost use Rattle.std.specs.Prelude.{◌≡◌, length, IfOk};
-ghost use Rattle.pc_lower.specs.Annotation.{AreOver, AreFew, NoHeads};
+ghost use Rattle.pc_flow.specs.Shape.{NoHeads};
+ghost use Rattle.pc_lower.specs.Annotation.{AreOver, AreFew};
 ghost use Rattle.pc_lower.specs.Need.{need};
 ghost use Rattle.pc_lower.specs.Operations.{Answers, operations};
 ghost use Rattle.pc_lower.specs.Laws.{IsComplete, IsNotRefused};

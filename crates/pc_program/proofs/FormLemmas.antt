@@ -9,6 +9,7 @@ use Rattle.pc_text.specs.declared.place.Place.{Place}
 use Rattle.pc_rows.specs.Linear.{Linear, value, sum_of, scaled_by, negate_list, add_lists, scale_list, of_constant, in_range, is_in_range, difference_of, above_of, is_number, fits}
 use Rattle.pc_rows.specs.declared.row.TheConstants.{VARIABLES}
 use Rattle.pc_rows.proofs.Ring.{mul_comm}
+use Rattle.pc_rows.proofs.Algebra.{get_or-zeros, length-add_lists, length-scale_list, length-negate_list}
 use Rattle.pc_rows.proofs.Lists.{dot-set, dot-zero}
 use Rattle.pc_rows.proofs.Values.{value-sum, value-difference, value-scaled}
 use Rattle.pc_program.specs.declared.tree.Expr.{Expr, fold-roll-Expr}
@@ -24,21 +25,6 @@ use Rattle.pc_program.proofs.Exprs.{by_cases}
 pub value-above : (a b : Linear) (s : State) → value (above_of a b) s ≡ value a s -ℤ value b s -ℤ pos 1
 value-above a b s = let e = value-difference a b s in omega (arith, ints)
 
--- ---- lengths
-
-length-add_lists : (a b : List ℤ) → length a ≡ length b → length (add_lists a b) ≡ length a
-length-add_lists [] b e = sym e
-length-add_lists (a ∷ as') [] e = refl
-length-add_lists (a ∷ as') (b ∷ bs) e = ap suc (length-add_lists as' bs (omega arith))
-
-length-scale_list : (k : ℤ) (a : List ℤ) → length (scale_list k a) ≡ length a
-length-scale_list k [] = refl
-length-scale_list k (a ∷ as') = ap suc (length-scale_list k as')
-
-length-negate_list : (a : List ℤ) → length (negate_list a) ≡ length a
-length-negate_list [] = refl
-length-negate_list (a ∷ as') = ap suc (length-negate_list as')
-
 -- ---- numbers and variables
 
 all_set : (xs : List ℤ) (v : ℕ) (z : ℤ) → list_all in_range xs ≡ true → in_range z ≡ true → list_all in_range (set xs v z) ≡ true
@@ -47,11 +33,6 @@ all_set (x ∷ xs) zero z h k = and_of (in_range z) (list_all in_range xs) k (an
 all_set (x ∷ xs) (suc v) z h k =
     let p = and_is (in_range x) (list_all in_range xs) h in
     and_of (in_range x) (list_all in_range (set xs v z)) p.0 (all_set xs v z p.1 k)
-
-pub get_or-zeros : (n v : ℕ) → get_or (replicate n (pos 0)) v (pos 0) ≡ pos 0
-get_or-zeros zero v = refl
-get_or-zeros (suc n) zero = refl
-get_or-zeros (suc n) (suc v) = get_or-zeros n v
 
 number_form : (n : ℤ) → in_range n ≡ true → (s : State) → value (of_constant n) s ≡ n
 number_form n h s = let z = dot-zero (of_constant n).coefficients s refl in omega (arith, ints)

@@ -12,7 +12,7 @@ use Rattle.pc_text.specs.declared.token.TheConstants.{LARGEST}
 use Rattle.pc_text.specs.declared.lexeme.Form.{Form}
 use Rattle.pc_text.specs.declared.lexeme.Form.TheVariants as form
 use Rattle.pc_text.specs.Answers.{Means}
-use Rattle.pc_text.proofs.Spans.{spans}
+use Rattle.pc_text.proofs.Spans.{ends_within, spans}
 use Rattle.pc_grammar.specs.Symbols.{value_of, symbol_of, symbols_of}
 use Rattle.pc_grammar.specs.declared.symbol.Symbol.{Symbol}
 use Rattle.pc_rows.specs.Linear.{in_range}
@@ -22,10 +22,6 @@ use Rattle.pc_program.proofs.Results.{and_is, and_of, at_most}
 -- a symbol of a text of n bytes whose number is in range
 abbrev pub fits : ℕ → Symbol → Bool
 fits n s = fit_symbol n s && in_range s.number
-
-within : (low high : ℕ) (ts : List Token) → AreSpans low high ts → low ≤ high
-within low high [] h = h
-within low high (t ∷ ts) (a, b, h) = let w = within t.to high ts h in omega arith
 
 in_range_of : (n : ℕ) → n ≤ LARGEST → in_range (pos n) ≡ true
 in_range_of n h = grind (arith, nat_tests)
@@ -50,7 +46,7 @@ symbols_fit_by : (src : Bytes) (low high : ℕ) (ts : List Token) → AreSpans l
 symbols_fit_by src low high [] h k = refl
 symbols_fit_by src low high (t ∷ ts) (a, b, h) k =
     let p = and_is (in_range (value_of t.kind)) (list_all (λ t. in_range (value_of t.kind)) ts) k in
-    let w = within t.to high ts h in
+    let w = ends_within t.to high ts h in
     and_of (fits high (symbol_of src t)) (list_all (fits high) (symbols_of src ts))
     (and_of (nat_le t.from t.to && nat_le t.to high) (in_range (value_of t.kind)) (and_of (nat_le t.from t.to) (nat_le t.to high) (at_most t.from t.to (omega arith)) (at_most t.to high w)) p.0)
     (symbols_fit_by src t.to high ts h p.1)

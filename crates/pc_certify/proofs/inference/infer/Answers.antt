@@ -1,7 +1,7 @@
 use Rattle.std.proofs.Common.{◌≡◌, ◌≤◌, [], length, sym, subst}
 use Rattle.std.specs.List.{AllByRecursion}
+use Rattle.pc_flow.specs.Shape.{NoHeads}
 use Rattle.pc_lower.specs.declared.mode.Mode.{Mode}
-use Rattle.pc_lower.specs.Annotation.{NoHeads}
 use Rattle.pc_certificate.specs.Certificate.{Certificate, IsShowable, condition_of}
 use Rattle.pc_replay.specs.Accepts.{Accepts}
 use Rattle.pc_replay.proofs.Sound.{accepted_is_safe}
