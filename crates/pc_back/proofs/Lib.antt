@@ -1,0 +1,4 @@
+pub mod Joins
+pub mod Viewing
+pub mod States
+pub mod Keeping
