@@ -1,6 +1,6 @@
 -- The states of values.
 use Rattle.std.proofs.Common.{◌≡◌, ◌∙◌, ℕ, ℤ, pos, ◌≤ℤ◌, List, [], ◌∷◌, map, Some, None, sym, ap, subst}
-use Rattle.std.specs.Prelude.{◌↔◌}
+use Rattle.std.specs.Prelude.{◌↔◌, MatchOption}
 use Rattle.pc_rows.specs.Linear.{Linear, State, MeetsAll, value, first_of, zero_from}
 use Rattle.pc_rows.specs.Joins.{joined}
 use Rattle.pc_rows.proofs.First.{value_of_first}
@@ -8,15 +8,31 @@ use Rattle.pc_rows.proofs.Joining.{joined_meets}
 use Rattle.pc_flow.specs.declared.what.What.{What}
 use Rattle.pc_flow.specs.Carry.{HasVariable}
 use Rattle.pc_flow.specs.Walk.{Pass, Keeps}
+use Rattle.pc_entail.specs.Showing.{AllShown}
+use Rattle.pc_entail.proofs.Finding.{shown_rows_are_met}
+use Rattle.pc_lower.specs.Narrowing.{nothing, AreBelow}
 use Rattle.pc_lower.specs.Need.{demanded}
 use Rattle.pc_lower.proofs.Covering.{join_covers}
 use Rattle.pc_lower.proofs.Narrowings.{nothing_is_met}
 use Rattle.pc_lower.proofs.Paying.{pays}
 use Rattle.pc_back.specs.Needs.{Rowed, HasNeed, list_of, BeforeIs, BothIs, EntryIs}
 
-pub list_met : (need : Rowed) (s : State) → HasNeed need s ↔ MeetsAll s (list_of need)
+list_met : (need : Rowed) (s : State) → HasNeed need s ↔ MeetsAll s (list_of need)
 list_met None s = ((λ h. absurd h), nothing_is_met s)
 list_met (Some rows) s = ((λ h. h), (λ h. h))
+
+pub listed_met : (need : Rowed) (rows : List Linear) → rows ≡ list_of need → (s : State) → HasNeed need s ↔ MeetsAll s rows
+listed_met need rows is s = subst (λ (z : List Linear). HasNeed need s ↔ MeetsAll s z) (sym is) (list_met need s)
+
+-- what is found to be shown is met
+pub shown_has : (need : Rowed) (old : List Linear) → AllShown old (list_of need) → (s : State) → MeetsAll s old → HasNeed need s
+shown_has need old shown s met = (list_met need s).1 (shown_rows_are_met old (list_of need) s shown met)
+
+-- what is left of narrowed rows is met where both are
+pub below_has : (old newer rows : List Linear) (need : Rowed) → AreBelow old newer rows → MatchOption need (rows ≡ nothing) (λ kept. kept ≡ rows) → (s : State) → HasNeed need s →
+    MeetsAll s old × MeetsAll s newer
+below_has old newer rows None below is s has = absurd has
+below_has old newer rows (Some kept) below is s has = below s (subst (MeetsAll s) is has)
 
 pub before_has : (w : What) (need new : Rowed) → BeforeIs w need new → (s : State) → HasVariable w s → HasNeed new s →
     Keeps w s × ((t : State) → Pass w s t → HasNeed need t)

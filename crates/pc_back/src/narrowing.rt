@@ -98,6 +98,16 @@ fn is_nothing(alloc: Global, rows: &Rows) -> bool
 fn is_never(alloc: Global, r: &Row) -> bool
     ensures { IsTrue result ↔ (r.now ≡ minus_one) }
 {
-    let never = Row::of_constant(alloc, -1);
-    r.is_at_most(&never) && never.is_at_most(r)
+    are_same(r, &Row::of_constant(alloc, -1))
+}
+
+/// Whether two rows are the same.
+fn are_same(a: &Row, b: &Row) -> bool
+    ensures { IsTrue result ↔ (a.now ≡ b.now) }
+{
+    if a.is_at_most(b) {
+        b.is_at_most(a)
+    } else {
+        false
+    }
 }
