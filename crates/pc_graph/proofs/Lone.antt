@@ -27,6 +27,10 @@ IfCheck P e = IsCheck e.what → P e
 abbrev NoneWith : List Arc → Arc → Type 0
 NoneWith es e = Each (λ x. x.from ≢ e.from) es
 
+-- the edge is the only one of the list that leaves its point
+abbrev OnlyOne : List Arc → Arc → Type 0
+OnlyOne es e = leaving e.from es ≡ e ∷ []
+
 none_leaves : (q : ℕ) (es : List Arc) → Each (λ x. x.from ≢ q) es → leaving q es ≡ []
 none_leaves q [] h = refl
 none_leaves q (e ∷ es) h = by (e.from == q) (eqb_tells e.from q) (none_leaves q es h.1)
@@ -51,7 +55,8 @@ behind es fs e apart alone check =
     ∙ ap (λ (z : List Arc). z ++ leaving e.from fs) (none_leaves e.from es (apart check))
     ∙ alone check
 
-each_with : {A : Type 0} (P Q R : A → Type 0) → ((x : A) → P x → Q x → R x) → (xs : List A) → Each P xs → Each Q xs → Each R xs
+-- two facts of each item give a third
+pub each_with : {A : Type 0} (P Q R : A → Type 0) → ((x : A) → P x → Q x → R x) → (xs : List A) → Each P xs → Each Q xs → Each R xs
 each_with P Q R f [] h g = tt
 each_with P Q R f (x ∷ xs) h g = (f x h.0 g.0, each_with P Q R f xs h.1 g.1)
 
@@ -77,7 +82,7 @@ behind_tests : (b : Bool) (p q : ℕ) (ws : List (List Linear)) (es : List Arc) 
 behind_tests b p q ws es up alone =
     joined_alone (tests b p q ws) es (tests_free (NoneWith es) b p q ws)
     (each_more (IfCheck (λ e. p < e.from)) (IfCheck (NoneWith (tests b p q ws))) (λ e h check. tests_apart b p q ws e (h check)) es up)
-    (tests_free (IsAloneIfCheck (tests b p q ws)) b p q ws) alone
+    (tests_free (OnlyOne (tests b p q ws)) b p q ws) alone
 
 -- ---- pieces
 
@@ -122,7 +127,7 @@ split_alone place t p n a b up made last last2 in_a in_b f h =
     let later2 = each_join (IfCheck (λ e. p < e.from)) b.edges ends (later p a.next b (omega arith) in_b) (no_ends a.last b.last b.next (λ e. p < e.from)) in
     let second = joined_alone b.edges ends
         (each_more In2 (IfCheck (NoneWith ends)) (λ e w check. let low = least a.next e.from w.low in ((λ same. omega arith), ((λ same. w.other (sym same)), tt))) b.edges in_b)
-        (no_ends a.last b.last b.next (NoneWith b.edges)) h (no_ends a.last b.last b.next (IsAloneIfCheck ends)) in
+        (no_ends a.last b.last b.next (NoneWith b.edges)) h (no_ends a.last b.last b.next (OnlyOne ends)) in
     let rest = behind_tests false p a.next (ways t false) (b.edges ++ ends) later2 second in
     let both = joined_alone a.edges (falses ++ (b.edges ++ ends))
         (each_more In1 (IfCheck (NoneWith (falses ++ (b.edges ++ ends))))
@@ -152,7 +157,7 @@ loop_alone place t tried p n a up in_a f =
     let body = joined_alone a.edges (back ∷ falses)
         (each_more (λ e. Within n (n + 1) a.next a.last e.from) (IfCheck (NoneWith (back ∷ falses)))
         (λ e w check. let low = least n e.from w.low in ((λ same. w.other (sym same)), tests_apart false p a.next (ways t false) e (omega arith))) a.edges in_a)
-        (free (NoneWith a.edges)) f (free (IsAloneIfCheck (back ∷ falses))) in
+        (free (NoneWith a.edges)) f (free (OnlyOne (back ∷ falses))) in
     behind_tests true p n (ways t true) (a.edges ++ (back ∷ falses))
     (each_join (IfCheck (λ e. p < e.from)) a.edges (back ∷ falses) (later p n a up in_a) (free (λ e. p < e.from))) body
   where

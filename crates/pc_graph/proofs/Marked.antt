@@ -16,7 +16,7 @@ use Rattle.pc_graph.specs.declared.draft.Loop.{Loop}
 use Rattle.pc_graph.specs.Lowering.{Piece, Rule, one, after, tests, rule, rules}
 use Rattle.pc_graph.specs.Marks.{LeadsOn, IsLoopAt}
 use Rattle.pc_graph.specs.Rest.{rests, rests_of}
-use Rattle.pc_graph.proofs.Lone.{one_alone, after_alone}
+use Rattle.pc_graph.proofs.Lone.{each_with, one_alone, after_alone}
 use Rattle.pc_graph.proofs.Pieces.{holds_left, holds_right}
 use Rattle.pc_graph.proofs.Tied.{Holds}
 use Rattle.pc_graph.proofs.Within.{Within, within_first, within_second, apart}
@@ -47,11 +47,6 @@ more_begins xs ys es h = each_more (IfBody (λ e. Begins xs e.from)) (IfBody (λ
 
 pub later_begins : (xs ys : List Loop) (es : List Arc) → Each (IfBody (λ e. Begins ys e.from)) es → Each (IfBody (λ e. Begins (xs ++ ys) e.from)) es
 later_begins xs ys es h = each_more (IfBody (λ e. Begins ys e.from)) (IfBody (λ e. Begins (xs ++ ys) e.from)) (λ e f b. begins_right xs ys e.from (f b)) es h
-
--- a loop of a list, with what holds of its head
-each_both : (P Q R : Loop → Type 0) → ((l : Loop) → P l → Q l → R l) → (ls : List Loop) → Each P ls → Each Q ls → Each R ls
-each_both P Q R f [] h g = tt
-each_both P Q R f (l ∷ ls) h g = (f l h.0 g.0, each_both P Q R f ls h.1 g.1)
 
 module _ (ρ : ℕ → List Stmt) where
   abbrev pub LoopIn : List Arc → Loop → Type 0
@@ -100,10 +95,10 @@ module _ (ρ : ℕ → List Stmt) where
 
   -- loops whose heads no further edge leaves
   pub loops_before : (es fs : List Arc) (ls : List Loop) → Each (λ l. Each (λ e. e.from ≢ l.head) es) ls → Each (LoopIn fs) ls → Each (LoopIn (es ++ fs)) ls
-  loops_before es fs ls none h = each_both (λ l. Each (λ e. e.from ≢ l.head) es) (LoopIn fs) (LoopIn (es ++ fs)) (before es fs) ls none h
+  loops_before es fs ls none h = each_with (λ l. Each (λ e. e.from ≢ l.head) es) (LoopIn fs) (LoopIn (es ++ fs)) (before es fs) ls none h
 
   pub loops_behind : (es fs : List Arc) (ls : List Loop) → Each (λ l. Each (λ e. e.from ≢ l.head) fs) ls → Each (LoopIn es) ls → Each (LoopIn (es ++ fs)) ls
-  loops_behind es fs ls none h = each_both (λ l. Each (λ e. e.from ≢ l.head) fs) (LoopIn es) (LoopIn (es ++ fs)) (behind es fs) ls none h
+  loops_behind es fs ls none h = each_with (λ l. Each (λ e. e.from ≢ l.head) fs) (LoopIn es) (LoopIn (es ++ fs)) (behind es fs) ls none h
 
   marked_after : (p n : ℕ) (k l : List Stmt) (i j : ℕ) (a b : Piece) → p < n → Marked p n k i a → Marked a.last a.next l j b → Marked p n l (i + j) (after a b)
   marked_after p n k l i j a b up f h =
