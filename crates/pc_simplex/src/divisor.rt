@@ -3,6 +3,7 @@
 ghost use Rattle.std.specs.Prelude.{◌≡◌, ◌≤ℤ◌, ◌*ℤ◌, int_div, int_rem, pos, true, OkIff, IfSome};
 ghost use Rattle.pc_rows.specs.Linear.{InRange};
 
+use crate::word::Word;
 use pc_rows::{Number, Past};
 use std::marker::Model;
 
@@ -71,14 +72,14 @@ impl Divisor {
         }
     }
 
-    /// The same, where the quotient and the divisor fit into machine words.
+    /// The same, where the quotient and the divisor are words. Half of the inverse is then enough.
     fn word_multiple(&self, n: Number) -> Option<Number>
         ensures { IfSome result (λ q. (q *ℤ self.now ≡ n) × InRange q) }
     {
         let guess = low_word(n.get().wrapping_shr(self.zeros)).wrapping_mul(low_word(self.inverse));
         let quotient = Number::new(guess.cast_signed() as i128);
-        match word(self.number) {
-            Some(divisor) if is_product(quotient, divisor, n) => Some(quotient),
+        match (Word::of(quotient), Word::of(self.number)) {
+            (Some(q), Some(d)) if q.times(d) == n.get() => Some(quotient),
             _ => None,
         }
     }
@@ -91,16 +92,6 @@ impl Divisor {
             Some(quotient) if is_product(quotient, self.number, n) => Some(quotient),
             _ => None,
         }
-    }
-}
-
-/// The same number, where it fits into a machine word. The compiler then knows that it does.
-pub fn word(n: Number) -> Option<Number>
-    ensures { IfSome result (λ m. m ≡ n) }
-{
-    match i64::try_from(n.get()) {
-        Ok(m) => Some(Number::new(m as i128)),
-        Err(_) => None,
     }
 }
 
