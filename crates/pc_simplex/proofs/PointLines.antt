@@ -8,7 +8,6 @@ use Rattle.pc_rows.specs.declared.row.TheConstants.{VARIABLES}
 use Rattle.pc_rows.specs.Linear.{scale_list}
 use Rattle.pc_rows.specs.Evidence.{Point}
 use Rattle.pc_rows.specs.Points.{with_numerator, over_multiple}
-use Rattle.pc_simplex.specs.declared.label.Label.{Label}
 use Rattle.pc_simplex.specs.declared.label.Label.TheVariants.{Variable, Row}
 use Rattle.pc_simplex.specs.Values.{Line}
 use Rattle.pc_simplex.specs.Found.{is_label, constant_of, numerators_from, point_at}

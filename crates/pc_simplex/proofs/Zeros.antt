@@ -1,5 +1,5 @@
 -- Where the numbers of a line are 0 from a column on, loops over them may end there.
-use Rattle.std.proofs.Common.{◌≡◌, ℕ, zero, suc, ◌+◌, ◌==◌, ◌&&◌, ◌<◌, ◌≤◌, ℤ, pos, neg_ℤ, refl, sym, ◌∙◌, ap, subst, arith, List, [], ◌∷◌, length, drop, replicate, Bool, true, false, cond, Option, Some, None}
+use Rattle.std.proofs.Common.{◌≡◌, ℕ, zero, suc, ◌+◌, ◌==◌, ◌&&◌, ◌<◌, ◌≤◌, ℤ, pos, neg_ℤ, refl, sym, ◌∙◌, ap, subst, arith, List, [], ◌∷◌, length, drop, replicate, Bool, true, false, cond, Option, None}
 use Rattle.std.proofs.lemmas.Bool.Decides.{nat_tests}
 use Rattle.pc_rows.specs.Linear.{is_zero}
 use Rattle.pc_simplex.specs.declared.label.Label.{Label}
@@ -7,7 +7,7 @@ use Rattle.pc_simplex.specs.declared.label.Label.TheVariants.{Variable, Row}
 use Rattle.pc_simplex.specs.Values.{Pick, Pivot, AreZero}
 use Rattle.pc_simplex.specs.Choosing.{earlier, first_from, first_of, entering, entering_each}
 use Rattle.pc_simplex.specs.Found.{is_label, number_of}
-use Rattle.pc_simplex.specs.Pivoting.{is_up, signed, number_after, numbers_after, number_fits, numbers_fit, own_number, own_numbers}
+use Rattle.pc_simplex.specs.Pivoting.{is_up, signed, numbers_after, numbers_fit, own_number, own_numbers}
 use Rattle.pc_simplex.proofs.Nothing.{nothing_after}
 
 pub zeros_are_zero : (n : ℕ) → AreZero (replicate n (pos 0))
