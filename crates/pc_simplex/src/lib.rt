@@ -16,6 +16,7 @@ mod label;
 mod line;
 mod table;
 mod turns;
+mod word;
 
 pub use guess::{Guess, search};
 pub use turns::PIVOTS;
