@@ -2,7 +2,8 @@
 
 ghost use Rattle.std.specs.Prelude.{◌≡◌, ◌≤◌, ◌↔◌, Some, None, true, false, IfOk, IsTrue, MatchOption};
 ghost use Rattle.pc_rows.specs.Linear.{State, MeetsAll};
-ghost use Rattle.pc_entail.specs.Showing.{minus_one, AllShown};
+ghost use Rattle.pc_rows.specs.Substitution.{never_row};
+ghost use Rattle.pc_entail.specs.Showing.{AllShown};
 ghost use Rattle.pc_lower.specs.Narrowing.{nothing};
 ghost use Rattle.pc_back.specs.declared.limits.TheConstants.{LAST_ROUND};
 ghost use Rattle.pc_back.specs.Needs.{HasNeed, list_of};
@@ -96,7 +97,7 @@ fn is_nothing(alloc: Global, rows: &Rows) -> bool
 
 /// Whether the row is the row -1.
 fn is_never(alloc: Global, r: &Row) -> bool
-    ensures { IsTrue result ↔ (r.now ≡ minus_one) }
+    ensures { IsTrue result ↔ (r.now ≡ never_row) }
 {
     are_same(r, &Row::of_constant(alloc, -1))
 }
