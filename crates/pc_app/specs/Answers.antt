@@ -79,24 +79,22 @@ Given (WithScript source script) = Program × Choosing
 
 -- how an order is answered, by what its files mean
 abbrev pub Says : (order : Order) → Given (inputs_of order) → ℕ → Bytes → Type 0
-Says (Infer source) p status text = InferAnswers p status text
-Says (Certify source) p status text = CertifyAnswers p status text
-Says (Replay source certificate) given status text = ReplayAnswers given.0 given.1 status text
-Says (Run source script) given status text = RunAnswers given.0 given.1 status text
-Says (Show source) p status text = ShowAnswers p status text
-Says (Facts domain source) p status text = FactsAnswers domain p status text
+Says (Infer source) = InferAnswers
+Says (Certify source) = CertifyAnswers
+Says (Replay source certificate) = λ given. ReplayAnswers given.0 given.1
+Says (Run source script) = λ given. RunAnswers given.0 given.1
+Says (Show source) = ShowAnswers
+Says (Facts domain source) = FactsAnswers domain
 
 -- files are answered, one after the other, where their meanings are answered so
 abbrev pub OnInputs : (Bytes → Holding) → (inputs : Inputs) → (Given inputs → ℕ → Bytes → Type 0) → ℕ → Bytes → Type 0
-OnInputs held (Source source) A status text = OnFile source_kind A (held source) status text
-OnInputs held (WithCertificate source certificate) A status text =
-    OnFile source_kind (λ p. OnFile certificate_kind (λ c. A (p, c)) (held certificate)) (held source) status text
-OnInputs held (WithScript source script) A status text =
-    OnFile source_kind (λ p. OnFile (script_kind p.names.params) (λ c. A (p, c)) (held script)) (held source) status text
+OnInputs held (Source source) A = OnFile source_kind A (held source)
+OnInputs held (WithCertificate source certificate) A = OnFile source_kind (λ p. OnFile certificate_kind (λ c. A (p, c)) (held certificate)) (held source)
+OnInputs held (WithScript source script) A = OnFile source_kind (λ p. OnFile (script_kind p.names.params) (λ c. A (p, c)) (held script)) (held source)
 
 -- how an order is answered
 abbrev pub OrderAnswers : (Bytes → Holding) → Order → ℕ → Bytes → Type 0
-OrderAnswers held order status text = OnInputs held (inputs_of order) (Says order) status text
+OrderAnswers held order = OnInputs held (inputs_of order) (Says order)
 
 -- how words are answered
 pub data Answers (words : List Bytes) (held : Bytes → Holding) (status : ℕ) (text : Bytes) : Type 0 where
