@@ -16,7 +16,7 @@ use Rattle.pc_app.specs.Words.{Order, Infer, Certify, Replay, Run, Show, Facts, 
 use Rattle.pc_app.specs.Files.{Kind, MayHold, MayMean, OnFile}
 use Rattle.pc_app.specs.Files.OnFile.{IsRefused, IsRead}
 use Rattle.pc_app.specs.Kinds.{source_kind, script_kind, certificate_kind}
-use Rattle.pc_app.specs.Answers.{Answers, Given, Says, OnInputs, OrderAnswers}
+use Rattle.pc_app.specs.Answers.{Answers, Given, Says, OnCertificate, OnScript, OnInputs, OrderAnswers}
 use Rattle.pc_app.specs.Answers.Answers.{Unknown, Known}
 use Rattle.pc_app.specs.Causes.{IsRuling, IsVerdict, IsEnd}
 use Rattle.pc_app.specs.Promises.{OfBytes, IsAnswered}
@@ -76,9 +76,9 @@ module _ (status : ℕ) (text : Bytes) where
   inputs_usual : (held : Bytes → Holding) (inputs : Inputs) (A : Given inputs → ℕ → Bytes → Type 0) → AllEnd inputs A → OnInputs held inputs A status text → Usual status
   inputs_usual held (Source source) A ends a = source_usual A (held source) (λ p b. usual status (inl (ends p b))) a
   inputs_usual held (WithCertificate source certificate) A ends a =
-      source_usual _ (held source) (λ p b. file_usual certificate_kind _ (held certificate) (inr refl) (λ c r. ruling_usual (ends (p, c) r)) b) a
+      source_usual (OnCertificate (held certificate) A) (held source) (λ p b. file_usual certificate_kind (λ c. A (p, c)) (held certificate) (inr refl) (λ c r. ruling_usual (ends (p, c) r)) b) a
   inputs_usual held (WithScript source script) A ends a =
-      source_usual _ (held source) (λ p b. file_usual (script_kind p.names.params) _ (held script) (inr refl) (λ c r. verdict_usual (ends (p, c) r)) b) a
+      source_usual (OnScript (held script) A) (held source) (λ p b. file_usual (script_kind p.names.params) (λ c. A (p, c)) (held script) (inr refl) (λ c r. verdict_usual (ends (p, c) r)) b) a
 
   pub says_ends : (order : Order) → AllEnd (inputs_of order) (Says order)
   says_ends (Infer source) p a = a.status_is

@@ -23,17 +23,17 @@ use Rattle.pc_facts.specs.Facts.{OfFold, IsFacts}
 use Rattle.pc_app.specs.declared.domains.FactsDomain.TheVariants as domains
 use Rattle.pc_app.specs.Known.{AreFacts}
 
-module _ (g : Flow) (rows : List (List Linear)) (is : IsGraph g) (none : NoHeads g.points) (of : OfFold box_says g rows) where
-  boxes_are : IsTheBoxAt g of.views
-  boxes_are = fold_is_box_at g of.views is none of.fold
+module _ (g : Flow) (rows : List (List Linear)) (is : IsGraph g) (none : NoHeads g.points) (fold : OfFold box_says g rows) where
+  boxes_are : IsTheBoxAt g fold.views
+  boxes_are = fold_is_box_at g fold.views is none fold.fold
 
-  boxes_long : length of.views ≡ length (boxes_of g)
+  boxes_long : length fold.views ≡ length (boxes_of g)
   boxes_long = ap length boxes_are.whole ∙ length-map (boxes_of g) view_of
 
-  rows_at : (p : ℕ) → p < length of.views → slice_get rows p ≡ slice_get (map rows_of (boxes_of g)) p
+  rows_at : (p : ℕ) → p < length fold.views → slice_get rows p ≡ slice_get (map rows_of (boxes_of g)) p
   rows_at p lt =
-      let e = of.said.each p lt in
-      let there = boxes_are.each p (let l = of.fold.long in omega arith) in
+      let e = fold.said.each p lt in
+      let there = boxes_are.each p (let l = fold.fold.long in omega arith) in
       let view : e.0 ≡ view_of (box_at g p) = (let here = e.1 in cc) in
       let told = rows_are_box_rows g p e.2.0 (subst (λ (v : View). box_says.rows v e.2.0) view e.2.2) in
       e.2.1 ∙ ap Some told ∙ sym (slice_get-map rows_of (boxes_of g) p ∙ ap (option_map rows_of) (slice_get-get_or (boxes_of g) p None (let l = boxes_long in omega arith)))
@@ -41,8 +41,8 @@ module _ (g : Flow) (rows : List (List Linear)) (is : IsGraph g) (none : NoHeads
   -- without loops the rows that boxes give are those of the definition
   rows_of_boxes : rows ≡ map rows_of (boxes_of g)
   rows_of_boxes =
-      let long = of.said.long in
-      let boxes = boxes_long in
+      let long = fold.said.long in
+      let made = boxes_long in
       let told = length-map (boxes_of g) rows_of in
       same_items rows (map rows_of (boxes_of g)) (omega arith) (λ p lt. rows_at p (omega arith))
 

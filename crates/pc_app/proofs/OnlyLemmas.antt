@@ -19,7 +19,7 @@ use Rattle.pc_app.specs.Verdicts.{verdict_status}
 use Rattle.pc_app.specs.Files.{Kind, MayHold, HasBytes, OnFile}
 use Rattle.pc_app.specs.Files.OnFile.{IsRefused, IsRead}
 use Rattle.pc_app.specs.Kinds.{source_kind, script_kind, certificate_kind}
-use Rattle.pc_app.specs.Answers.{Answers, ReplayAnswers, RunAnswers, Given, Says, OnInputs, OrderAnswers}
+use Rattle.pc_app.specs.Answers.{Answers, ReplayAnswers, RunAnswers, Given, Says, OnCertificate, OnScript, OnInputs, OrderAnswers}
 use Rattle.pc_app.specs.Answers.Answers.{Unknown, Known}
 use Rattle.pc_app.specs.Promises.{AreTold}
 use Rattle.pc_app.proofs.AnswerLemmas.{order_answers}
@@ -108,12 +108,12 @@ module _ (s : ℕ) (t : Bytes) (s' : ℕ) (t' : Bytes) where
       ((g h : Given inputs) → AreSame inputs g h → A g s t → A h s' t' → s ≡ s') → OnInputs held inputs A s t → OnInputs held inputs A s' t' → s ≡ s'
   inputs_once held (Source source) A told one x y = source_once A A (held source) told.0 one x y
   inputs_once held (WithCertificate source certificate) A told one x y =
-      source_once _ _ (held source) told.0
+      source_once (OnCertificate (held certificate) A) (OnCertificate (held certificate) A) (held source) told.0
       (λ p q same a b.
       file_once certificate_kind _ certificate_decided (λ c. A (p, c)) (λ c. A (q, c)) (held certificate) told.1.0 (λ c d e k l. one (p, c) (q, d) (same, e) k l) a b)
       x y
   inputs_once held (WithScript source script) A told one x y =
-      source_once _ _ (held source) told.0
+      source_once (OnScript (held script) A) (OnScript (held script) A) (held source) told.0
       (λ p q same a b. script_once p q (λ c. A (p, c)) (λ c. A (q, c)) (held script) told.1.0 same (λ c d e k l. one (p, c) (q, d) (same, e) k l) a b) x y
 
   says_once : (order : Order) (g h : Given (inputs_of order)) → AreSame (inputs_of order) g h → Says order g s t → Says order h s' t' → s ≡ s'

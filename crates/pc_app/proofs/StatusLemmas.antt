@@ -8,7 +8,7 @@ use Rattle.pc_app.specs.declared.status.TheConstants.{DONE, REFUSED, MALFORMED, 
 use Rattle.pc_app.specs.Files.{Kind, MayMean, OnFile}
 use Rattle.pc_app.specs.Files.OnFile.{IsRead}
 use Rattle.pc_app.specs.Kinds.{source_kind, script_kind, certificate_kind}
-use Rattle.pc_app.specs.Answers.{Given, OnInputs}
+use Rattle.pc_app.specs.Answers.{Given, OnCertificate, OnScript, OnInputs}
 use Rattle.pc_app.specs.Causes.{IsMeaningless, Behind, AreTooLong, AreRefused, AreMalformed, AreMeant, IsEnd, IsRuling, IsVerdict}
 use Rattle.pc_app.specs.Promises.{AreTold, AreThere}
 use Rattle.pc_app.specs.Words.{Inputs, Source, WithCertificate, WithScript, names_of}
@@ -21,17 +21,17 @@ use Rattle.pc_app.proofs.KindLemmas.{AreAlike, source_decided, script_decided, c
 module _ (held : Bytes → Holding) where
   pub too_long_answer : (inputs : Inputs) (A : Given inputs → ℕ → Bytes → Type 0) → AreTooLong held inputs → (text : Bytes) × OnInputs held inputs A TOO_LONG text
   too_long_answer (Source source) A h = (source_kind.long, over_answer source_kind A (held source) h)
-  too_long_answer (WithCertificate source certificate) A (inl h) = (source_kind.long, over_answer source_kind _ (held source) h)
-  too_long_answer (WithCertificate source certificate) A (inr b) = (certificate_kind.long, IsRead b.program b.spelled (over_answer certificate_kind _ (held certificate) b.cause))
-  too_long_answer (WithScript source script) A (inl h) = (source_kind.long, over_answer source_kind _ (held source) h)
+  too_long_answer (WithCertificate source certificate) A (inl h) = (source_kind.long, over_answer source_kind (OnCertificate (held certificate) A) (held source) h)
+  too_long_answer (WithCertificate source certificate) A (inr b) = (certificate_kind.long, IsRead b.program b.spelled (over_answer certificate_kind (λ c. A (b.program, c)) (held certificate) b.cause))
+  too_long_answer (WithScript source script) A (inl h) = (source_kind.long, over_answer source_kind (OnScript (held script) A) (held source) h)
   too_long_answer (WithScript source script) A (inr b) =
       let kind = script_kind b.program.names.params in
-      (kind.long, IsRead b.program b.spelled (over_answer kind _ (held script) b.cause))
+      (kind.long, IsRead b.program b.spelled (over_answer kind (λ c. A (b.program, c)) (held script) b.cause))
 
   pub refused_answer : (inputs : Inputs) (A : Given inputs → ℕ → Bytes → Type 0) → AreRefused held inputs → (text : Bytes) × OnInputs held inputs A REFUSED text
   refused_answer (Source source) A h = meaningless_answer source_kind A (held source) AreAlike source_decided h
-  refused_answer (WithCertificate source certificate) A h = meaningless_answer source_kind _ (held source) AreAlike source_decided h
-  refused_answer (WithScript source script) A h = meaningless_answer source_kind _ (held source) AreAlike source_decided h
+  refused_answer (WithCertificate source certificate) A h = meaningless_answer source_kind (OnCertificate (held certificate) A) (held source) AreAlike source_decided h
+  refused_answer (WithScript source script) A h = meaningless_answer source_kind (OnScript (held script) A) (held source) AreAlike source_decided h
 
   pub malformed_answer : (inputs : Inputs) (A : Given inputs → ℕ → Bytes → Type 0) → AreMalformed held inputs → (text : Bytes) × OnInputs held inputs A MALFORMED text
   malformed_answer (Source source) A h = absurd h
@@ -76,7 +76,7 @@ module _ (status : ℕ) (text : Bytes) where
         only_left (λ x. let s : status ≡ DONE = ends x.0 x.2 in omega arith)
         (over_cause source_kind A (held source) status text told.0 (λ l. omega arith) e a)
     too_long_cause (WithCertificate source certificate) A ends told e a =
-        elim (over_cause source_kind _ (held source) status text told.0 (λ l. omega arith) e a) [
+        elim (over_cause source_kind (OnCertificate (held certificate) A) (held source) status text told.0 (λ l. omega arith) e a) [
           | inl h ↦ inl h
           | inr x ↦ inr (record {
             program = x.0;
@@ -87,7 +87,7 @@ module _ (status : ℕ) (text : Bytes) where
           })
         ]
     too_long_cause (WithScript source script) A ends told e a =
-        elim (over_cause source_kind _ (held source) status text told.0 (λ l. omega arith) e a) [
+        elim (over_cause source_kind (OnScript (held script) A) (held source) status text told.0 (λ l. omega arith) e a) [
           | inl h ↦ inl h
           | inr x ↦ inr (record {
             program = x.0;
@@ -105,22 +105,22 @@ module _ (status : ℕ) (text : Bytes) where
         (meaningless_cause source_kind A (held source) AreAlike source_decided status text told.0 (λ l. omega arith) e a)
     refused_cause (WithCertificate source certificate) A ends told e a =
         only_left (λ x. not_refused certificate_kind (λ c. A (x.0, c)) (held certificate) refl (λ c r i. let s : IsRuling status = ends (x.0, c) r in omega arith) x.2 e)
-        (meaningless_cause source_kind _ (held source) AreAlike source_decided status text told.0 (λ l. omega arith) e a)
+        (meaningless_cause source_kind (OnCertificate (held certificate) A) (held source) AreAlike source_decided status text told.0 (λ l. omega arith) e a)
     refused_cause (WithScript source script) A ends told e a =
         only_left (λ x. not_refused (script_kind x.0.names.params) (λ c. A (x.0, c)) (held script) refl (λ c r i. let s : IsVerdict status = ends (x.0, c) r in omega arith) x.2 e)
-        (meaningless_cause source_kind _ (held source) AreAlike source_decided status text told.0 (λ l. omega arith) e a)
+        (meaningless_cause source_kind (OnScript (held script) A) (held source) AreAlike source_decided status text told.0 (λ l. omega arith) e a)
 
     pub malformed_cause : (inputs : Inputs) (A : Given inputs → ℕ → Bytes → Type 0) → AllEnd status text inputs A → AreTold held (names_of inputs) → status ≡ MALFORMED → OnInputs held inputs A status text →
         AreMalformed held inputs
     malformed_cause (Source source) A ends told e a = (behind A (held source) (λ p. ⊥) e (λ p b. let s : status ≡ DONE = ends p b in omega arith) a).cause
     malformed_cause (WithCertificate source certificate) A ends told e a =
-        behind _ (held source) (λ p. IsMeaningless certificate_kind (held certificate)) e
+        behind (OnCertificate (held certificate) A) (held source) (λ p. IsMeaningless certificate_kind (held certificate)) e
         (λ p b.
         only_left (λ x. let s : IsRuling status = ends (p, x.0) x.2 in omega arith)
         (meaningless_cause certificate_kind (λ c. A (p, c)) (held certificate) _ certificate_decided status text told.1.0 (λ l. omega arith) e b))
         a
     malformed_cause (WithScript source script) A ends told e a =
-        behind _ (held source) (λ p. IsMeaningless (script_kind p.names.params) (held script)) e
+        behind (OnScript (held script) A) (held source) (λ p. IsMeaningless (script_kind p.names.params) (held script)) e
         (λ p b.
         only_left (λ x. let s : IsVerdict status = ends (p, x.0) x.2 in omega arith)
         (meaningless_cause (script_kind p.names.params) (λ c. A (p, c)) (held script) _ (script_decided p.names.params) status text told.1.0 (λ l. omega arith) e b))
@@ -133,12 +133,12 @@ module _ (status : ℕ) (text : Bytes) where
         let y = meant_read source_kind A (held source) AreAlike source_decided status text told.0 x.0 x.1 a in
         ends y.0 y.2
     outcome (WithCertificate source certificate) A ends told h a =
-        let y = meant_read source_kind _ (held source) AreAlike source_decided status text told.0 h.program h.spelled a in
+        let y = meant_read source_kind (OnCertificate (held certificate) A) (held source) AreAlike source_decided status text told.0 h.program h.spelled a in
         let x = may_mean certificate_kind (held certificate) h.cause in
         let z = meant_read certificate_kind (λ c. A (y.0, c)) (held certificate) _ certificate_decided status text told.1.0 x.0 x.1 y.2 in
         ends (y.0, z.0) z.2
     outcome (WithScript source script) A ends told h a =
-        let y = meant_read source_kind _ (held source) AreAlike source_decided status text told.0 h.program h.spelled a in
+        let y = meant_read source_kind (OnScript (held script) A) (held source) AreAlike source_decided status text told.0 h.program h.spelled a in
         let params : y.0.names.params ≡ h.program.names.params = ap (λ (c : Content). c.names.params) (sym y.1) in
         let moved = subst (λ (n : ℕ). OnFile (script_kind n) (λ c. A (y.0, c)) (held script) status text) params y.2 in
         let x = may_mean (script_kind h.program.names.params) (held script) h.cause in

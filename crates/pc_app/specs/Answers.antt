@@ -86,11 +86,18 @@ Says (Run source script) = λ given. RunAnswers given.0 given.1
 Says (Show source) = ShowAnswers
 Says (Facts domain source) = FactsAnswers domain
 
+-- a program and the certificate, or the script, behind it
+abbrev pub OnCertificate : Holding → (Program × Certificate → ℕ → Bytes → Type 0) → Program → ℕ → Bytes → Type 0
+OnCertificate held A p = OnFile certificate_kind (λ c. A (p, c)) held
+
+abbrev pub OnScript : Holding → (Program × Choosing → ℕ → Bytes → Type 0) → Program → ℕ → Bytes → Type 0
+OnScript held A p = OnFile (script_kind p.names.params) (λ c. A (p, c)) held
+
 -- files are answered, one after the other, where their meanings are answered so
 abbrev pub OnInputs : (Bytes → Holding) → (inputs : Inputs) → (Given inputs → ℕ → Bytes → Type 0) → ℕ → Bytes → Type 0
 OnInputs held (Source source) A = OnFile source_kind A (held source)
-OnInputs held (WithCertificate source certificate) A = OnFile source_kind (λ p. OnFile certificate_kind (λ c. A (p, c)) (held certificate)) (held source)
-OnInputs held (WithScript source script) A = OnFile source_kind (λ p. OnFile (script_kind p.names.params) (λ c. A (p, c)) (held script)) (held source)
+OnInputs held (WithCertificate source certificate) A = OnFile source_kind (OnCertificate (held certificate) A) (held source)
+OnInputs held (WithScript source script) A = OnFile source_kind (OnScript (held script) A) (held source)
 
 -- how an order is answered
 abbrev pub OrderAnswers : (Bytes → Holding) → Order → ℕ → Bytes → Type 0
