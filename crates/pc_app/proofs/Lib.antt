@@ -5,6 +5,8 @@ pub mod TextLemmas
 pub mod ScriptLemmas
 pub mod VerdictLemmas
 pub mod KindLemmas
+pub mod SpellingLemmas
+pub mod FactLemmas
 pub mod AnswerLemmas
 pub mod OnlyLemmas
 pub mod CauseLemmas

@@ -15,9 +15,10 @@ use Rattle.pc_app.specs.Rulings.{ruling_status, ruling_text}
 use Rattle.pc_app.specs.Files.{OnFile}
 use Rattle.pc_app.specs.Inferred.{Inferred}
 use Rattle.pc_app.specs.Kinds.{source_kind, script_kind, certificate_kind}
-use Rattle.pc_app.specs.Answers.{InferAnswers, CertifyAnswers, ReplayAnswers, RunAnswers, ShowAnswers, OnReplay, OnRun}
+use Rattle.pc_app.specs.declared.domains.FactsDomain.{FactsDomain}
+use Rattle.pc_app.specs.Answers.{InferAnswers, CertifyAnswers, ReplayAnswers, RunAnswers, ShowAnswers, FactsAnswers, OnReplay, OnRun}
 use Rattle.pc_app.specs.Causes.{IsRuling, IsVerdict}
-use Rattle.pc_app.specs.Promises.{OfBytes, PrintedSuffices, PrintedIsExact, PrintedCovers, PrintedCertificate, PrintedRuling, PrintedAccepted, PrintedVerdict, PrintedProgram}
+use Rattle.pc_app.specs.Promises.{OfBytes, PrintedSuffices, PrintedIsExact, PrintedCovers, PrintedCertificate, PrintedRuling, PrintedAccepted, PrintedVerdict, PrintedProgram, PrintedFacts}
 use Rattle.pc_app.proofs.AnswerLemmas.{file_read, of_bytes, of_nothing}
 
 module _ (held : Holding) (bytes : Bytes) (status : ℕ) (text : Bytes) (old new : Option Bytes) (e : held ≡ Held bytes) (written : Appended old new text) where
@@ -64,6 +65,12 @@ module _ (held : Holding) (bytes : Bytes) (status : ℕ) (text : Bytes) (old new
   show_is_text done file =
       let r = file_read source_kind ShowAnswers held bytes status text e (λ l. omega arith) (λ l. omega arith) file in
       record { program = r.0; spelled = r.1; printed = is_written _ r.2.text_is }
+
+  pub facts_are_known : (domain : FactsDomain) → status ≡ DONE → OnFile source_kind (FactsAnswers domain) held status text → PrintedFacts domain bytes old new
+  facts_are_known domain done file =
+      let r = file_read source_kind (FactsAnswers domain) held bytes status text e (λ l. omega arith) (λ l. omega arith) file in
+      let a = r.2.facts in
+      record { program = r.0; spelled = r.1; rows = a.rows; known = a.known; printed = is_written _ a.printed }
 
   pub run_is_verdict : IsVerdict status → (script : Holding) → OnFile source_kind (OnRun script) held status text → OfBytes (λ of_script. PrintedVerdict bytes of_script status old new) script
   run_is_verdict told script file =

@@ -1,7 +1,7 @@
 -- Lists of a few words, and the orders that they may be.
 use Rattle.std.proofs.Common.{◌≡◌, ℕ, ◌<◌, ◌≤◌, ◌⊎◌, inl, inr, List, [], ◌∷◌, length, map, get_or, arith, ap, sym, ◌∙◌, refl}
 use Rattle.std.proofs.lemmas.List.{length-map}
-use Rattle.pc_app.specs.Words.{Order, Infer, Certify, Replay, Run, Show, words_of, IsPlain}
+use Rattle.pc_app.specs.Words.{Order, Infer, Certify, Replay, Run, Show, Facts, words_of, IsPlain}
 
 pub two_of : {W : Type 0} (f : W → List ℕ) (ws : List W) (a b : W) → 2 ≤ length ws → length ws < 3 → a ≡ get_or ws 0 a → b ≡ get_or ws 1 b → map f ws ≡ f a ∷ f b ∷ []
 two_of f [] a b l m p q = absurd (omega arith)
@@ -23,6 +23,7 @@ order_length (Certify source) = inr refl
 order_length (Replay source certificate) = inr refl
 order_length (Run source script) = inr refl
 order_length (Show source) = inl refl
+order_length (Facts domain source) = inr refl
 
 -- an order has two words or three
 pub not_plain : {W : Type 0} (f : W → List ℕ) (ws : List W) → (length ws < 2) ⊎ (3 < length ws) → IsPlain (map f ws) → ⊥

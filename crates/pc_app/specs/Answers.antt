@@ -18,8 +18,10 @@ use Rattle.pc_app.specs.declared.status.TheConstants.{DONE, USAGE}
 use Rattle.pc_app.specs.declared.limits.TheConstants.{CERTIFICATE_BYTES}
 use Rattle.pc_app.specs.Files.{OnFile}
 use Rattle.pc_app.specs.Kinds.{source_kind, script_kind, certificate_kind}
-use Rattle.pc_app.specs.Words.{Order, Infer, Certify, Replay, Run, Show, IsOrder, IsPlain}
+use Rattle.pc_app.specs.Words.{Order, Infer, Certify, Replay, Run, Show, Facts, Inputs, Source, WithCertificate, WithScript, inputs_of, IsOrder, IsPlain}
+use Rattle.pc_app.specs.declared.domains.FactsDomain.{FactsDomain}
 use Rattle.pc_app.specs.Inferred.{Inferred}
+use Rattle.pc_app.specs.Known.{AreFacts}
 use Rattle.pc_app.specs.Texts.{usage}
 use Rattle.pc_app.specs.Rulings.{ruling_status, ruling_text}
 use Rattle.pc_app.specs.Verdicts.{verdict_status, verdict_text}
@@ -57,6 +59,11 @@ pub record ShowAnswers (p : Program) (status : ℕ) (text : Bytes) : Type 0 wher
   pub status_is : status ≡ DONE
   pub text_is : text ≡ program_text p.names p.body
 
+-- how `facts` answers a program: by what a domain knows at each point
+pub record FactsAnswers (domain : FactsDomain) (p : Program) (status : ℕ) (text : Bytes) : Type 0 where
+  pub facts : AreFacts domain p text
+  pub status_is : status ≡ DONE
+
 -- how a program is answered with a certificate, or with a script
 abbrev pub OnReplay : Holding → Program → ℕ → Bytes → Type 0
 OnReplay held p status text = OnFile certificate_kind (ReplayAnswers p) held status text
@@ -64,13 +71,37 @@ OnReplay held p status text = OnFile certificate_kind (ReplayAnswers p) held sta
 abbrev pub OnRun : Holding → Program → ℕ → Bytes → Type 0
 OnRun held p status text = OnFile (script_kind p.names.params) (RunAnswers p) held status text
 
+-- what the files of an order mean
+abbrev pub Given : Inputs → Type 0
+Given (Source source) = Program
+Given (WithCertificate source certificate) = Program × Certificate
+Given (WithScript source script) = Program × Choosing
+
+-- how an order is answered, by what its files mean
+abbrev pub Says : (order : Order) → Given (inputs_of order) → ℕ → Bytes → Type 0
+Says (Infer source) = InferAnswers
+Says (Certify source) = CertifyAnswers
+Says (Replay source certificate) = λ given. ReplayAnswers given.0 given.1
+Says (Run source script) = λ given. RunAnswers given.0 given.1
+Says (Show source) = ShowAnswers
+Says (Facts domain source) = FactsAnswers domain
+
+-- a program and the certificate, or the script, behind it
+abbrev pub OnCertificate : Holding → (Program × Certificate → ℕ → Bytes → Type 0) → Program → ℕ → Bytes → Type 0
+OnCertificate held A p = OnFile certificate_kind (λ c. A (p, c)) held
+
+abbrev pub OnScript : Holding → (Program × Choosing → ℕ → Bytes → Type 0) → Program → ℕ → Bytes → Type 0
+OnScript held A p = OnFile (script_kind p.names.params) (λ c. A (p, c)) held
+
+-- files are answered, one after the other, where their meanings are answered so
+abbrev pub OnInputs : (Bytes → Holding) → (inputs : Inputs) → (Given inputs → ℕ → Bytes → Type 0) → ℕ → Bytes → Type 0
+OnInputs held (Source source) A = OnFile source_kind A (held source)
+OnInputs held (WithCertificate source certificate) A = OnFile source_kind (OnCertificate (held certificate) A) (held source)
+OnInputs held (WithScript source script) A = OnFile source_kind (OnScript (held script) A) (held source)
+
 -- how an order is answered
 abbrev pub OrderAnswers : (Bytes → Holding) → Order → ℕ → Bytes → Type 0
-OrderAnswers held (Infer source) status text = OnFile source_kind InferAnswers (held source) status text
-OrderAnswers held (Certify source) status text = OnFile source_kind CertifyAnswers (held source) status text
-OrderAnswers held (Replay source certificate) status text = OnFile source_kind (OnReplay (held certificate)) (held source) status text
-OrderAnswers held (Run source script) status text = OnFile source_kind (OnRun (held script)) (held source) status text
-OrderAnswers held (Show source) status text = OnFile source_kind ShowAnswers (held source) status text
+OrderAnswers held order = OnInputs held (inputs_of order) (Says order)
 
 -- how words are answered
 pub data Answers (words : List Bytes) (held : Bytes → Holding) (status : ℕ) (text : Bytes) : Type 0 where

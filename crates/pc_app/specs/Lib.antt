@@ -3,6 +3,7 @@ pub mod Texts
 pub mod Verdicts
 pub mod Rulings
 pub mod Inferred
+pub mod Known
 pub mod Files
 pub mod Kinds
 pub mod Answers

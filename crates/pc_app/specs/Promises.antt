@@ -9,6 +9,7 @@ use Rattle.pc_show.specs.Canonical.{program_text}
 use Rattle.pc_certificate.specs.Certificate.{Certificate, condition_of}
 use Rattle.pc_cert.specs.CertificateTexts.{IsTextOf}
 use Rattle.pc_cert.specs.Conditions.{condition_text}
+use Rattle.pc_facts.specs.Lines.{lines_from}
 use Rattle.pc_graph.specs.Lowering.{graph}
 use Rattle.pc_replay.specs.Accepts.{Accepts}
 use Rattle.pc_replay.specs.Rule.{ruling}
@@ -17,8 +18,10 @@ use Rattle.pc_runner.specs.Scripts.{Choosing, script_of}
 use Rattle.pc_runner.specs.declared.verdict.Verdict.{Verdict}
 use Rattle.pc_app.specs.declared.status.TheConstants.{STORE_FAILED, SINK_FAILED, NO_MEMORY}
 use Rattle.pc_app.specs.declared.limits.TheConstants.{CERTIFICATE_BYTES}
+use Rattle.pc_app.specs.declared.domains.FactsDomain.{FactsDomain}
 use Rattle.pc_app.specs.Rulings.{ruling_status, ruling_text}
 use Rattle.pc_app.specs.Inferred.{IsCondition, Suffices, IsNeeded, IsTameAndStraight, CoversGuesses}
+use Rattle.pc_app.specs.Known.{AreKnown}
 use Rattle.pc_app.specs.Words.{Order, IsOrder, files_of}
 use Rattle.pc_app.specs.Verdicts.{verdict_status, verdict_text}
 use Rattle.pc_app.specs.Answers.{Answers}
@@ -86,6 +89,15 @@ pub record PrintedProgram (bytes : Bytes) (old new : Option Bytes) : Type 0 wher
   pub program : Program
   pub spelled : Spells bytes program
   pub printed : Appended old new (program_text program.names program.body)
+
+-- the bytes of a source spell a program; what was appended is a line for each point of its graph, with rows that each state meets
+-- which some walk from an entry state brings there
+pub record PrintedFacts (domain : FactsDomain) (bytes : Bytes) (old new : Option Bytes) : Type 0 where
+  pub program : Program
+  pub spelled : Spells bytes program
+  pub rows : List (List Linear)
+  pub known : AreKnown domain program rows
+  pub printed : Appended old new (lines_from program.names.names (graph program).points 0 rows)
 
 -- the bytes of a source spell a program, those of a script are one for it; the status and what was appended are those of the verdict on the machine's run
 pub record PrintedVerdict (source script : Bytes) (status : ℕ) (old new : Option Bytes) : Type 0 where

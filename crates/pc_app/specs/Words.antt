@@ -2,6 +2,8 @@
 use Rattle.std.specs.Prelude.{◌≡◌, ◌≢◌, List, [], ◌∷◌, codes}
 use Rattle.std.specs.List.{AllByRecursion}
 use Rattle.pc_text.specs.Bytes.{Bytes}
+use Rattle.pc_app.specs.declared.domains.FactsDomain.{FactsDomain}
+use Rattle.pc_app.specs.declared.domains.FactsDomain.TheVariants as domains
 use Rattle.pc_app.specs.declared.words.Command.{Command}
 use Rattle.pc_app.specs.declared.words.Command.TheVariants as command
 
@@ -10,14 +12,19 @@ abbrev pub IsFile : Bytes → Type 0
 IsFile [] = ⊥
 IsFile (first ∷ rest) = first ≢ 45
 
+-- the word for a domain of `facts`
+abbrev pub facts_domain_word : FactsDomain → Bytes
+facts_domain_word domains.Boxes = codes "--domain=boxes"
+
 -- what is ordered: the condition of a source; its certificate; the ruling on a certificate for a source; the run of a source on a
--- script; the canonical text of a source
+-- script; the canonical text of a source; what a domain knows at the points of a source
 pub data Order : Type 0 where
   Infer : Bytes → Order
   Certify : Bytes → Order
   Replay : Bytes → Bytes → Order
   Run : Bytes → Bytes → Order
   Show : Bytes → Order
+  Facts : FactsDomain → Bytes → Order
 
 -- the words of an order
 abbrev pub words_of : Order → List Bytes
@@ -26,14 +33,31 @@ words_of (Certify source) = codes "infer" ∷ source ∷ codes "--certificate" �
 words_of (Replay source certificate) = codes "replay" ∷ source ∷ certificate ∷ []
 words_of (Run source script) = codes "run" ∷ source ∷ script ∷ []
 words_of (Show source) = codes "show" ∷ source ∷ []
+words_of (Facts domain source) = codes "facts" ∷ source ∷ facts_domain_word domain ∷ []
 
--- the files that it names
+-- the files that are read for an order, one after the other: a source alone, or a certificate or a script behind it
+pub data Inputs : Type 0 where
+  Source : Bytes → Inputs
+  WithCertificate : Bytes → Bytes → Inputs
+  WithScript : Bytes → Bytes → Inputs
+
+abbrev pub inputs_of : Order → Inputs
+inputs_of (Infer source) = Source source
+inputs_of (Certify source) = Source source
+inputs_of (Replay source certificate) = WithCertificate source certificate
+inputs_of (Run source script) = WithScript source script
+inputs_of (Show source) = Source source
+inputs_of (Facts domain source) = Source source
+
+-- their names
+abbrev pub names_of : Inputs → List Bytes
+names_of (Source source) = source ∷ []
+names_of (WithCertificate source certificate) = source ∷ certificate ∷ []
+names_of (WithScript source script) = source ∷ script ∷ []
+
+-- the files that an order names
 abbrev pub files_of : Order → List Bytes
-files_of (Infer source) = source ∷ []
-files_of (Certify source) = source ∷ []
-files_of (Replay source certificate) = source ∷ certificate ∷ []
-files_of (Run source script) = source ∷ script ∷ []
-files_of (Show source) = source ∷ []
+files_of order = names_of (inputs_of order)
 
 -- the words order this, of files
 pub record IsOrder (words : List Bytes) (order : Order) : Type 0 where
@@ -64,6 +88,10 @@ IsRun words source script = IsOrder words (Run source script)
 abbrev pub IsShow : List Bytes → Bytes → Type 0
 IsShow words source = IsOrder words (Show source)
 
+-- the words `facts F --domain=..`
+abbrev pub IsFacts : List Bytes → FactsDomain → Bytes → Type 0
+IsFacts words domain source = IsOrder words (Facts domain source)
+
 -- the order of a command
 abbrev pub ordered : Command → Order
 ordered (command.Infer source) = Infer source.now
@@ -71,3 +99,4 @@ ordered (command.Certify source) = Certify source.now
 ordered (command.Replay source certificate) = Replay source.now certificate.now
 ordered (command.Run source script) = Run source.now script.now
 ordered (command.Show source) = Show source.now
+ordered (command.Facts domain source) = Facts domain source.now

@@ -4,6 +4,7 @@ ghost use Rattle.std.specs.Prelude.{◌≡◌, ℕ, List, map, string_bytes, IfO
 ghost use Rattle.pc_app.specs.Reading.{OrderIs, WordsAre};
 ghost use Rattle.pc_app.specs.Words.{ordered};
 
+use crate::facts::answer_to_facts;
 use crate::infer::{answer_to_certify, answer_to_infer};
 use crate::replay::answer_to_replay;
 use crate::run::answer_to_run;
@@ -56,7 +57,7 @@ pub(crate) fn answer_to_words<S: Store>(
         None => Ok(one_line(
             alloc,
             USAGE,
-            b"usage: precond infer F [--certificate]\n       precond replay F C\n       precond run F S\n       precond show F\n",
+            b"usage: precond infer F [--certificate]\n       precond replay F C\n       precond run F S\n       precond show F\n       precond facts F --domain=boxes\n",
         )?),
     }
 }
@@ -79,6 +80,7 @@ fn answer_to_command<S: Store>(
         } => answer_to_replay(alloc, source, certificate, store),
         Command::Run { source, script } => answer_to_run(alloc, source, script, store),
         Command::Show { source } => answer_to_show(alloc, source, store),
+        Command::Facts { domain, source } => answer_to_facts(alloc, domain, source, store),
     }
 }
 

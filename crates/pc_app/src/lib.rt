@@ -2,6 +2,8 @@
 #![tactic(auto)]
 
 mod answer;
+mod domains;
+mod facts;
 mod files;
 mod infer;
 mod laws;

@@ -2,10 +2,11 @@
 
 ghost use Rattle.std.specs.Prelude.{◌≡◌, ◌↔◌, ◌⊎◌, ℕ, List, map, string_bytes};
 ghost use Rattle.pc_ports.specs.Outside.{Rose};
-ghost use Rattle.pc_app.specs.Words.{Order, IsOrder, IsInfer, IsCertify, IsReplay, IsRun, IsShow, IsPlain, files_of};
+ghost use Rattle.pc_app.specs.Words.{Order, IsOrder, IsInfer, IsCertify, IsReplay, IsRun, IsShow, IsFacts, IsPlain, files_of};
+ghost use Rattle.pc_app.specs.declared.domains.FactsDomain.{FactsDomain};
 ghost use Rattle.pc_app.specs.Silences.{LacksFile};
 ghost use Rattle.pc_app.specs.Causes.{IsRuling, IsVerdict, OrderIsTooLong, OrderIsRefused, OrderIsMalformed, OrderIsMeant, IsOutcome};
-ghost use Rattle.pc_app.specs.Promises.{OfBytes, PrintedSuffices, PrintedIsExact, PrintedCovers, PrintedCertificate, PrintedRuling, PrintedAccepted, PrintedVerdict, PrintedProgram, AreTold, AreThere, IsOnlyStatus, IsWritten, IsAnswered, HasAnswered, IsCutOff, Ends};
+ghost use Rattle.pc_app.specs.Promises.{OfBytes, PrintedSuffices, PrintedIsExact, PrintedCovers, PrintedCertificate, PrintedRuling, PrintedAccepted, PrintedVerdict, PrintedProgram, PrintedFacts, AreTold, AreThere, IsOnlyStatus, IsWritten, IsAnswered, HasAnswered, IsCutOff, Ends};
 
 use crate::answer::{Answer, Stop, answer_to_words};
 use crate::status::{
@@ -24,7 +25,8 @@ use std::alloc::Global;
 /// - `replay F C`: the ruling on the certificate `C` for the source `F`, and where it is accepted
 ///   its condition;
 /// - `run F S`: the verdict on the run of the source `F` over the script `S`;
-/// - `show F`: the canonical text of the source `F`.
+/// - `show F`: the canonical text of the source `F`;
+/// - `facts F --domain=boxes`: for each point of the source `F` what boxes know there.
 ///
 /// An answer ends with [`DONE`], but a refused certificate and a violated assertion with
 /// [`FAILED`](crate::FAILED), and a run whose values leave the range with [`PAST`](crate::PAST).
@@ -70,6 +72,12 @@ pub fn serve<S: Store, K: Sink>(alloc: Global, words: &[String], store: &mut S, 
     // Words `show F`, done: the canonical text of the program.
     ensures shown { (name : List ℕ) → IsShow (map string_bytes words.now) name → result ≡ DONE →
         OfBytes (λ bytes. PrintedProgram bytes (K.written out.old) (K.written out.new)) (S.holding store.old name) }
+
+    // Words `facts F --domain=..`, done: a line for each point of the program's graph, with rows that each state meets
+    // which some walk from an entry state brings there. With boxes, where the program has no loops, they are exactly
+    // the rows of the box at the point.
+    ensures known { (domain : FactsDomain) (name : List ℕ) → IsFacts (map string_bytes words.now) domain name → result ≡ DONE →
+        OfBytes (λ bytes. PrintedFacts domain bytes (K.written out.old) (K.written out.new)) (S.holding store.old name) }
 
     // Each answer is written whole.
     ensures answered { IsAnswered result →

@@ -1,7 +1,9 @@
 //! The words of a command line.
 
-ghost use Rattle.std.specs.Prelude.{IsTrue, ◌↔◌, [], ◌∷◌, map, string_bytes, MatchOption};
+ghost use Rattle.std.specs.Prelude.{IsTrue, ◌↔◌, [], ◌∷◌, codes, map, string_bytes, MatchOption};
 ghost use Rattle.pc_app.specs.Words.{IsFile, IsPlain, IsOrder, ordered};
+
+use crate::domains::{FactsDomain, facts_domain};
 
 /// A command line in one of its plain forms.
 #[derive(Clone, Copy)]
@@ -26,6 +28,11 @@ pub(crate) enum Command<'a> {
     },
     /// `show F`: the canonical text of a source.
     Show {
+        source: &'a str,
+    },
+    /// `facts F --domain=..`: what a domain knows at each point of a source.
+    Facts {
+        domain: FactsDomain,
         source: &'a str,
     },
 }
@@ -64,12 +71,36 @@ fn of_three_words<'a>(verb: &str, source: &'a str, third: &'a str) -> Option<Com
     if !is_file(source) {
         return None;
     }
-    if verb == "infer" && third == "--certificate" {
-        Some(Command::Certify { source })
-    } else if is_file(third) {
+    if is_file(third) {
         of_two_files(verb, source, third)
     } else {
+        of_an_option(verb, source, third)
+    }
+}
+
+/// The command of a verb, a file and an option.
+fn of_an_option<'a>(verb: &str, source: &'a str, option: &str) -> Option<Command<'a>>
+    requires source { IsFile source.now }
+    requires option { IsFile option.now → ⊥ }
+    ensures { MatchOption result (IsPlain (verb.now ∷ source.now ∷ option.now ∷ []) → ⊥) (λ c. IsOrder (verb.now ∷ source.now ∷ option.now ∷ []) (ordered c)) }
+{
+    if verb == "infer" && option == "--certificate" {
+        Some(Command::Certify { source })
+    } else if verb == "facts" {
+        of_facts(source, option)
+    } else {
         None
+    }
+}
+
+/// The command `facts` of a file and an option.
+fn of_facts<'a>(source: &'a str, option: &str) -> Option<Command<'a>>
+    requires { IsFile source.now }
+    ensures { MatchOption result (IsPlain (codes "facts" ∷ source.now ∷ option.now ∷ []) → ⊥) (λ c. IsOrder (codes "facts" ∷ source.now ∷ option.now ∷ []) (ordered c)) }
+{
+    match facts_domain(option) {
+        Some(domain) => Some(Command::Facts { domain, source }),
+        None => None,
     }
 }
 

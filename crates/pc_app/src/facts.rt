@@ -1,0 +1,55 @@
+//! What the words `facts` are answered: what a domain knows at each point.
+
+ghost use Rattle.std.specs.Prelude.{◌≡◌, ℕ, List, IfOk};
+ghost use Rattle.pc_graph.specs.Lowering.{graph};
+ghost use Rattle.pc_app.specs.Known.{AreFacts};
+ghost use Rattle.pc_app.specs.Reading.{OrderIs};
+ghost use Rattle.pc_app.specs.Words.{Facts};
+
+use crate::answer::{Answer, Stop};
+use crate::domains::FactsDomain;
+use crate::files::source_in;
+use crate::status::DONE;
+use pc_box::Box16;
+use pc_facts::show_facts;
+use pc_flow::Graph;
+use pc_graph::lower;
+use pc_ports::Store;
+use pc_program::Program;
+use pc_text::{NoMemory, Text};
+use std::alloc::Global;
+
+/// The answer to `facts`.
+pub(crate) fn answer_to_facts<S: Store>(
+    alloc: Global,
+    domain: FactsDomain,
+    source: &str,
+    store: &mut S,
+) -> Result<Answer, Stop>
+    ensures answered { OrderIs (S.holding store.old) (S.faults store.old) (S.faults store.new) (Facts domain source.now) result }
+    ensures kept { (name : List ℕ) → S.holding store.new name ≡ S.holding store.old name }
+{
+    let program = source_in(alloc, source, store)?;
+    Ok(Answer {
+        status: DONE,
+        text: facts_of(alloc, domain, &program)?,
+    })
+}
+
+/// What a domain knows at each point of a program.
+fn facts_of(alloc: Global, domain: FactsDomain, program: &Program) -> Result<Text, NoMemory>
+    ensures { IfOk result (AreFacts domain program.now) }
+{
+    let graph = lower(alloc, program)?;
+    match domain {
+        FactsDomain::Boxes => boxes_of(alloc, program, &graph),
+    }
+}
+
+/// What boxes know at each point of a program with its graph.
+fn boxes_of(alloc: Global, program: &Program, g: &Graph) -> Result<Text, NoMemory>
+    requires { g.now ≡ graph program.now }
+    ensures { IfOk result (AreFacts FactsDomain.Boxes program.now) }
+{
+    show_facts::<Box16>(alloc, g, &program.names)
+}
