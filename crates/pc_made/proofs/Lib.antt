@@ -1,0 +1,4 @@
+pub mod Texts
+pub mod Sanity
+pub mod Limits
+pub mod Spelled
