@@ -6,6 +6,7 @@ use Rattle.pc_language.specs.declared.operator.Op.TheVariants as op
 use Rattle.pc_program.specs.declared.tree.Expr.{Expr}
 use Rattle.pc_program.specs.declared.tree.Expr.TheVariants as expr
 use Rattle.pc_program.specs.declared.tree.Compare.{Compare}
+use Rattle.pc_program.specs.declared.tree.Test.{Test}
 use Rattle.pc_program.specs.declared.tree.Test.TheVariants as test
 use Rattle.pc_program.specs.declared.tree.Stmt.{Stmt}
 use Rattle.pc_program.specs.declared.tree.Stmt.TheVariants as stmt
@@ -38,9 +39,12 @@ set_counter x = stmt.Set nowhere 1 (record { expr = x; choice = None })
 abbrev pub bounded : ℕ → Stmt
 bounded k = stmt.Assert nowhere (compared op.AtMost counter (sum parameter (number k)) ∷ [])
 
+abbrev pub below_ten : Test
+below_ten = test.All (compared op.Less counter (number 10) ∷ [])
+
 -- while the counter is below 10, it is bounded and then one more
 abbrev pub counting : ℕ → Stmt
-counting k = stmt.While nowhere (test.All (compared op.Less counter (number 10) ∷ [])) [] (bounded k ∷ set_counter (sum counter (number 1)) ∷ [])
+counting k = stmt.While nowhere below_ten [] (bounded k ∷ set_counter (sum counter (number 1)) ∷ [])
 
 -- the loop of a number, whose counter begins at 0
 abbrev pub loop : ℕ → List Stmt
