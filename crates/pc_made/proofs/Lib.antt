@@ -1,5 +1,5 @@
-pub mod Lists
-pub mod Texts
-pub mod Sanity
-pub mod Limits
+mod Lists
+mod Texts
+mod Sanity
+mod Shown
 pub mod Spelled

@@ -32,21 +32,21 @@ ten_text = refl
 abbrev body_text : List Stmt → Bytes
 body_text ss = bytes_of (stmts_pieces names.names ss 2)
 
-one_shown : (k : ℕ) → body_text (loop k) ≡ loop_text k
+one_written : (k : ℕ) → body_text (loop k) ≡ loop_text k
 unfolding counted
-one_shown k = simp (num_laid, name_laid, add_laid, set_laid, while_laid, assert_laid, zero_text, one_text, ten_text)
+one_written k = simp (num_laid, name_laid, add_laid, set_laid, while_laid, assert_laid, zero_text, one_text, ten_text)
 
-both_shown : (xs ys : List Stmt) → body_text (xs ++ ys) ≡ body_text xs ++ body_text ys
-both_shown xs ys =
+both_written : (xs ys : List Stmt) → body_text (xs ++ ys) ≡ body_text xs ++ body_text ys
+both_written xs ys =
     ap (λ (fs : List (ℕ → List Piece)). bytes_of (lines fs 2)) (map-append (stmt_pieces names.names) xs ys) ∙
     ap bytes_of (flat_map-append (λ (f : ℕ → List Piece). f 2) (map (stmt_pieces names.names) xs) (map (stmt_pieces names.names) ys)) ∙
     flat_map-append spelled (stmts_pieces names.names xs 2) (stmts_pieces names.names ys 2)
 
-all_shown : (n : ℕ) → body_text (loops n) ≡ loops_text n
-all_shown zero = refl
-all_shown (suc n) = both_shown (loops n) (loop (suc n)) ∙ ap₂ (λ x y. x ++ y) (all_shown n) (one_shown (suc n))
+all_written : (n : ℕ) → body_text (loops n) ≡ loops_text n
+all_written zero = refl
+all_written (suc n) = both_written (loops n) (loop (suc n)) ∙ ap₂ (λ x y. x ++ y) (all_written n) (one_written (suc n))
 
-pub made_shown : (n : ℕ) → program_text names (loops n) ≡ made n
-made_shown n =
+pub made_written : (n : ℕ) → program_text names (loops n) ≡ made n
+made_written n =
     ap (λ z. codes "entry (a) {\n  var i;\n" ++ z)
-    (flat_map-append spelled (stmts_pieces names.names (loops n) 2) (Mark terminal.CloseBrace ∷ LineEnd ∷ []) ∙ ap (λ z. z ++ codes "}\n") (all_shown n))
+    (flat_map-append spelled (stmts_pieces names.names (loops n) 2) (Mark terminal.CloseBrace ∷ LineEnd ∷ []) ∙ ap (λ z. z ++ codes "}\n") (all_written n))

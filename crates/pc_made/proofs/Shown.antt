@@ -13,6 +13,7 @@ use Rattle.pc_show.specs.declared.showing.level.Level.TheVariants as level
 use Rattle.pc_show.specs.Canonical.{expr_pieces}
 use Rattle.pc_show.proofs.Laid.{num_laid, name_laid, add_laid}
 use Rattle.pc_readback.specs.Showable.{is_name, has_literals, signs_in, signs_of, shown_expr, shown_step, shown_stmt, shown_stmts, deepest, nesting, nesting_of, is_showable}
+use Rattle.pc_gen.specs.declared.made.TheConstants.{LOOPS}
 use Rattle.pc_made.specs.Trees.{nowhere, names, parameter, counter, number, sum, below_ten, compared, set_counter, bounded, counting, loop, loops}
 use Rattle.pc_made.proofs.Lists.{each_and}
 use Rattle.pc_made.proofs.Sanity.{small}
@@ -36,13 +37,13 @@ name_signs v = simp name_laid
 sum_signs : (v k : ℕ) → signs_in (expr_pieces names.names (sum (expr.Name v) (number k)) level.Expression) ≡ 1
 sum_signs v k = simp (add_laid, name_laid, num_laid)
 
-number_shown : (k : ℕ) → k ≤ 64 → shown_expr names.names (number k) ≡ true
+number_shown : (k : ℕ) → k ≤ LOOPS → shown_expr names.names (number k) ≡ true
 number_shown k h = few_signs (number k) (simp (fold-num, small k h)) (let e = number_signs k in omega arith)
 
 name_shown : (v : ℕ) → shown_expr names.names (expr.Name v) ≡ true
 name_shown v = few_signs (expr.Name v) (simp fold-name) (let e = name_signs v in omega arith)
 
-sum_shown : (v k : ℕ) → k ≤ 64 → shown_expr names.names (sum (expr.Name v) (number k)) ≡ true
+sum_shown : (v k : ℕ) → k ≤ LOOPS → shown_expr names.names (sum (expr.Name v) (number k)) ≡ true
 sum_shown v k h = few_signs (sum (expr.Name v) (number k)) (simp (fold-add, fold-name, fold-num, small k h)) (let e = sum_signs v k in omega arith)
 
 -- ---- statements
@@ -50,21 +51,21 @@ sum_shown v k h = few_signs (sum (expr.Name v) (number k)) (simp (fold-add, fold
 set_shown : (x : Expr) → shown_expr names.names x ≡ true → shown_stmt names.names (set_counter x) ≡ true
 set_shown x h = fold-set Bool (shown_step names.names) nowhere 1 (record { expr = x; choice = None }) ∙ h
 
-bounded_shown : (k : ℕ) → k ≤ 64 → shown_stmt names.names (bounded k) ≡ true
+bounded_shown : (k : ℕ) → k ≤ LOOPS → shown_stmt names.names (bounded k) ≡ true
 bounded_shown k h =
     fold-assert Bool (shown_step names.names) nowhere (compared op.AtMost counter (sum parameter (number k)) ∷ []) ∙
     and_of _ true (and_of _ _ (name_shown 1) (sum_shown 0 k h)) refl
 
-counting_shown : (k : ℕ) → k ≤ 64 → shown_stmt names.names (counting k) ≡ true
+counting_shown : (k : ℕ) → k ≤ LOOPS → shown_stmt names.names (counting k) ≡ true
 counting_shown k h =
     fold-while Bool (shown_step names.names) nowhere below_ten [] (bounded k ∷ set_counter (sum counter (number 1)) ∷ []) ∙
     and_of _ _ (and_of _ true (and_of _ _ (name_shown 1) (number_shown 10 (omega arith))) refl)
     (and_of _ _ (bounded_shown k h) (and_of _ true (set_shown (sum counter (number 1)) (sum_shown 1 1 (omega arith))) refl))
 
-one_shown : (k : ℕ) → k ≤ 64 → shown_stmts names.names (loop k) ≡ true
+one_shown : (k : ℕ) → k ≤ LOOPS → shown_stmts names.names (loop k) ≡ true
 one_shown k h = and_of _ _ (set_shown (number 0) (number_shown 0 (omega arith))) (and_of _ true (counting_shown k h) refl)
 
-all_shown : (n : ℕ) → n ≤ 64 → shown_stmts names.names (loops n) ≡ true
+all_shown : (n : ℕ) → n ≤ LOOPS → shown_stmts names.names (loops n) ≡ true
 all_shown zero h = refl
 all_shown (suc n) h = each_and (shown_stmt names.names) (loops n) (loop (suc n)) (all_shown n (omega arith)) (one_shown (suc n) h)
 
@@ -84,5 +85,5 @@ all_nest : (n : ℕ) → nesting_of (loops n) ≤ 1
 all_nest zero = omega arith
 all_nest (suc n) = no_deeper nesting (loops n) (loop (suc n)) (all_nest n) (let e = one_nests (suc n) in omega arith)
 
-pub made_showable : (n : ℕ) → n ≤ 64 → is_showable names (loops n) ≡ true
+pub made_showable : (n : ℕ) → n ≤ LOOPS → is_showable names (loops n) ≡ true
 made_showable n h = and_of _ _ are_names (and_of _ _ (all_shown n h) (at_most (1 + nesting_of (loops n)) BRACES (let e = all_nest n in omega arith)))
