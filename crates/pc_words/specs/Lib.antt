@@ -1,0 +1,5 @@
+pub mod Words
+pub mod CommandLine
+pub mod Taken
+pub mod Building
+pub mod Examples

@@ -1,0 +1,126 @@
+-- The words of a command line, each a list of bytes, and the plain forms that they can have.
+use Rattle.std.specs.Prelude.{◌≡◌, ◌≢◌, ℕ, pos, List, [], ◌∷◌, codes}
+use Rattle.std.specs.List.{AllByRecursion}
+use Rattle.pc_text.specs.Bytes.{Bytes}
+use Rattle.pc_text.specs.Numerals.{numeral}
+use Rattle.pc_gen.specs.Made.{IsLoops}
+use Rattle.pc_words.specs.declared.domains.FactsDomain.{FactsDomain}
+use Rattle.pc_words.specs.declared.domains.FactsDomain.TheVariants as facts
+use Rattle.pc_words.specs.declared.domains.QuickDomain.{QuickDomain}
+use Rattle.pc_words.specs.declared.domains.QuickDomain.TheVariants as quick
+use Rattle.pc_words.specs.declared.words.Command.{Command}
+use Rattle.pc_words.specs.declared.words.Command.TheVariants as command
+
+-- a word that names a file: it is not empty, and does not begin with `-`
+abbrev pub IsFile : Bytes → Type 0
+IsFile [] = ⊥
+IsFile (first ∷ rest) = first ≢ 45
+
+-- what is ordered: the condition of a source; its certificate; the ruling on a certificate for a source; the run of a source on a
+-- script; what a domain knows at the points of a source; the condition that a domain finds going backwards; the canonical text of a
+-- source; the condition of the made source with so many loops
+pub data Order : Type 0 where
+  Infer : Bytes → Order
+  Certify : Bytes → Order
+  Replay : Bytes → Bytes → Order
+  Run : Bytes → Bytes → Order
+  Facts : FactsDomain → Bytes → Order
+  Quick : QuickDomain → Bytes → Order
+  Show : Bytes → Order
+  Trial : ℕ → Order
+
+-- the word that names a domain for facts
+abbrev pub facts_word : FactsDomain → Bytes
+facts_word facts.Boxes = codes "--domain=boxes"
+facts_word facts.Polyhedra = codes "--domain=polyhedra"
+
+-- the word that names a domain for a quick condition
+abbrev pub quick_word : QuickDomain → Bytes
+quick_word quick.Rows = codes "--domain=rows"
+quick_word quick.Boxes = codes "--domain=boxes"
+
+-- the words of an order
+abbrev pub words_of : Order → List Bytes
+words_of (Infer source) = codes "infer" ∷ source ∷ []
+words_of (Certify source) = codes "infer" ∷ source ∷ codes "--certificate" ∷ []
+words_of (Replay source certificate) = codes "replay" ∷ source ∷ certificate ∷ []
+words_of (Run source script) = codes "run" ∷ source ∷ script ∷ []
+words_of (Facts domain source) = codes "facts" ∷ source ∷ facts_word domain ∷ []
+words_of (Quick domain source) = codes "quick" ∷ source ∷ quick_word domain ∷ []
+words_of (Show source) = codes "show" ∷ source ∷ []
+words_of (Trial loops) = codes "trial" ∷ numeral (pos loops) ∷ []
+
+-- the files that it names
+abbrev pub files_of : Order → List Bytes
+files_of (Infer source) = source ∷ []
+files_of (Certify source) = source ∷ []
+files_of (Replay source certificate) = source ∷ certificate ∷ []
+files_of (Run source script) = source ∷ script ∷ []
+files_of (Facts domain source) = source ∷ []
+files_of (Quick domain source) = source ∷ []
+files_of (Show source) = source ∷ []
+files_of (Trial loops) = []
+
+-- the number of loops that it names
+abbrev pub loops_of : Order → List ℕ
+loops_of (Infer source) = []
+loops_of (Certify source) = []
+loops_of (Replay source certificate) = []
+loops_of (Run source script) = []
+loops_of (Facts domain source) = []
+loops_of (Quick domain source) = []
+loops_of (Show source) = []
+loops_of (Trial loops) = loops ∷ []
+
+-- the words order this, of files, or of as many loops as a made source may have
+pub record IsOrder (words : List Bytes) (order : Order) : Type 0 where
+  pub spelled : words ≡ words_of order
+  pub files : AllByRecursion IsFile (files_of order)
+  pub loops : AllByRecursion IsLoops (loops_of order)
+
+-- words in a plain form
+abbrev pub IsPlain : List Bytes → Type 0
+IsPlain words = (order : Order) × IsOrder words order
+
+-- the words `infer F`
+abbrev pub IsInfer : List Bytes → Bytes → Type 0
+IsInfer words source = IsOrder words (Infer source)
+
+-- the words `infer F --certificate`
+abbrev pub IsCertify : List Bytes → Bytes → Type 0
+IsCertify words source = IsOrder words (Certify source)
+
+-- the words `replay F C`
+abbrev pub IsReplay : List Bytes → Bytes → Bytes → Type 0
+IsReplay words source certificate = IsOrder words (Replay source certificate)
+
+-- the words `run F S`
+abbrev pub IsRun : List Bytes → Bytes → Bytes → Type 0
+IsRun words source script = IsOrder words (Run source script)
+
+-- the words `facts F --domain=D`
+abbrev pub IsFacts : List Bytes → FactsDomain → Bytes → Type 0
+IsFacts words domain source = IsOrder words (Facts domain source)
+
+-- the words `quick F --domain=D`
+abbrev pub IsQuick : List Bytes → QuickDomain → Bytes → Type 0
+IsQuick words domain source = IsOrder words (Quick domain source)
+
+-- the words `show F`
+abbrev pub IsShow : List Bytes → Bytes → Type 0
+IsShow words source = IsOrder words (Show source)
+
+-- the words `trial N`
+abbrev pub IsTrial : List Bytes → ℕ → Type 0
+IsTrial words loops = IsOrder words (Trial loops)
+
+-- the order of a command
+abbrev pub ordered : Command → Order
+ordered (command.Infer source) = Infer source.now
+ordered (command.Certify source) = Certify source.now
+ordered (command.Replay source certificate) = Replay source.now certificate.now
+ordered (command.Run source script) = Run source.now script.now
+ordered (command.Facts domain source) = Facts domain source.now
+ordered (command.Quick domain source) = Quick domain source.now
+ordered (command.Show source) = Show source.now
+ordered (command.Trial loops) = Trial loops
