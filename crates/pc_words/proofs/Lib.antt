@@ -1,1 +1,4 @@
 pub mod WordLemmas
+pub mod LoopLemmas
+pub mod Adding
+pub mod SimpleCommand
