@@ -2,3 +2,5 @@ pub mod WordLemmas
 pub mod LoopLemmas
 pub mod Adding
 pub mod SimpleCommand
+pub mod Plainness
+mod Examples

@@ -23,7 +23,7 @@ pub fn taken(alloc: Global, words: &[String]) -> Result<Option<Vec<String>>, NoM
 {
     match accepted(alloc, words)? {
         Some(list) if command_of(list.as_slice()).is_some() => Ok(Some(list)),
-        _ => Ok(None),
+        Some(_) | None => Ok(None),
     }
 }
 

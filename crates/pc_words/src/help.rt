@@ -2,99 +2,124 @@
 
 /// At the top of the whole help.
 pub(crate) const PRECOND: &str =
-    "Prints conditions on the parameters of a program, from which no run violates an assertion";
+    "Prints conditions on the parameters of a program from which no run violates an assertion";
 
 /// Below the list of subcommands.
-pub(crate) const BELOW: &str = "FILE, CERTIFICATE and SCRIPT are names of files, not empty and without a - in front. All that is\n\
-printed goes to the standard output. A source is one entry, as\n\
-\n\
-  entry (x) { x = x - 1; assert (x >= 0); }\n\
-\n\
-for which infer prints suffices: x - 1 >= 0. A caller is safe who meets one of the lines that begin\n\
-so; after true every caller is, and false says that no condition was found. The language of sources\n\
-is told in docs/LANGUAGE.md of the repository, and the texts of scripts and certificates in\n\
-docs/FORMATS.md.\n\
-\n\
-Examples:\n\
-  precond infer copy\n\
-  precond infer copy --certificate > copy.certificate\n\
-  precond replay copy copy.certificate\n\
-  precond run copy copy.script\n\
-  precond facts copy --domain=boxes\n\
-  precond quick copy --domain=rows\n\
-  precond show copy\n\
-  precond trial 8\n\
-\n\
-The status is\n\
-   0  where the answer was printed\n\
-   1  where a run violates an assertion, or a certificate is refused; this was printed\n\
-   2  where the words are no command; this help was printed\n\
-   3  where the source spells no program; its first fault was printed, with line and column\n\
-   4  where a script or a certificate is not in its format; the first line at fault was printed\n\
-   5  where a file could not be read\n\
-   6  where the output could not be written\n\
-   7  where there was no memory\n\
-   8  where a file is too long; which one was printed\n\
-   9  where a value of the run is past the range; at which step was printed\n\
-  10  where the system did not give the words of the command line";
+pub(crate) const BELOW: &str = "\
+A source is one entry with its parameters, locals and statements, as
+
+  entry (x) {
+    var y;
+    y = x - 1;
+    assert (y >= 0);
+  }
+
+for which infer prints
+
+  suffices: x - 1 >= 0
+
+A caller is safe who meets one of the lines that begin so. Every caller meets true, and none false:
+then no condition was found. docs/LANGUAGE.md of the repository tells the language of sources, and
+docs/FORMATS.md the texts of scripts and certificates.
+
+Examples:
+  precond infer copy
+  precond infer copy --certificate > copy.certificate
+  precond replay copy copy.certificate
+  precond run copy copy.script
+  precond facts copy --domain=boxes
+  precond quick copy --domain=rows
+  precond show copy
+  precond trial 8
+
+Status:
+   0  the answer was printed
+   1  a run violates an assertion, or a certificate is refused: printed
+   2  the words are none of these commands: this help was printed
+   3  the source spells no program: its first fault was printed, with line and column
+   4  the script or the certificate is not in its format: the first line at fault was printed
+   5  a file could not be read
+   6  the output could not be written
+   7  there was no memory
+   8  a file is longer than it may be: which one was printed
+   9  a value of the run is past the range of numbers: the step was printed
+  10  the system did not give the words";
 
 /// Of `infer`.
 pub(crate) const INFER: &str = "Prints a condition from which no run violates an assertion";
-pub(crate) const INFER_BELOW: &str = "A line is printed for each alternative, suffices: and the rows that the parameters have to meet. With\n\
---certificate the condition is printed as a certificate, which replay checks.\n\
-\n\
-Examples:\n\
-  precond infer copy\n\
+pub(crate) const INFER_BELOW: &str = "\
+Prints a line for each alternative: suffices: and the rows that the parameters have to meet, true
+where every caller is safe, or false where nothing was found. With --certificate it prints, in place
+of the condition, a certificate that replay checks.
+
+Examples:
+  precond infer copy
   precond infer copy --certificate > copy.certificate";
 
 /// Of `replay`.
-pub(crate) const REPLAY: &str = "Checks a certificate for a source, whoever made it, and prints its condition";
-pub(crate) const REPLAY_BELOW: &str = "Prints accepted and the condition, or refused: and the first thing that is wrong, with status 1.\n\
-\n\
-Example:\n\
+pub(crate) const REPLAY: &str = "Checks a certificate, whoever made it, and prints its condition";
+pub(crate) const REPLAY_BELOW: &str = "\
+Prints accepted and the condition, or refused: and the first thing that is wrong, with status 1.
+
+Example:
   precond replay copy copy.certificate";
 
 /// Of `run`.
 pub(crate) const RUN: &str = "Prints how a program runs over the choices of a script";
-pub(crate) const RUN_BELOW: &str = "Prints one line: violated, with status 1; blocked, ended or going; or past, with status 9. A script\n\
-is a line entry with a value for each parameter, and a line choose with a number for each choice.\n\
-\n\
-Example:\n\
+pub(crate) const RUN_BELOW: &str = "\
+Prints one line, which begins with violated, and has status 1; with blocked, ended or going; or with
+past, and has status 9. A script has a line entry with a value for each parameter, and a line choose
+with a number for each choice.
+
+Example:
   precond run copy copy.script";
 
 /// Of `facts`.
 pub(crate) const FACTS: &str = "Prints what a domain knows at each point of a program";
-pub(crate) const FACTS_BELOW: &str = "A line is printed for each point, with rows that every state meets there, or nothing where none comes.\n\
-\n\
-Examples:\n\
-  precond facts copy --domain=boxes\n\
+pub(crate) const FACTS_BELOW: &str = "\
+Prints a line for each point: the rows that every state meets which some run brings there, or
+nothing where none comes.
+
+Examples:
+  precond facts copy --domain=boxes
   precond facts copy --domain=polyhedra";
 
 /// Of `quick`.
 pub(crate) const QUICK: &str = "Prints a condition that one domain finds, going backwards";
-pub(crate) const QUICK_BELOW: &str = "One line is printed, suffices: and the rows that the parameters have to meet. It may ask for more than\n\
-infer does.\n\
-\n\
-Examples:\n\
-  precond quick copy --domain=rows\n\
+pub(crate) const QUICK_BELOW: &str = "\
+Prints one line: suffices: and the rows that the parameters have to meet. It may ask for more than
+infer does.
+
+Examples:
+  precond quick copy --domain=rows
   precond quick copy --domain=boxes";
 
 /// Of `show`.
 pub(crate) const SHOW: &str = "Prints a program as it was understood, in its canonical text";
-pub(crate) const SHOW_BELOW: &str = "Example:\n  precond show copy";
+pub(crate) const SHOW_BELOW: &str = "\
+Example:
+  precond show copy";
 
 /// Of `trial`.
-pub(crate) const TRIAL: &str = "Prints the size and the condition of a made source, to see how the time grows";
-pub(crate) const TRIAL_BELOW: &str = "Example:\n  precond trial 8";
+pub(crate) const TRIAL: &str = "Prints the size and the condition of a made source with N loops";
+pub(crate) const TRIAL_BELOW: &str = "\
+Prints how many bytes, points, edges and alternatives there are, and the condition. It reads no
+file, and shows how the time grows.
+
+Example:
+  precond trial 8";
 
 /// Behind the values and options.
-pub(crate) const SOURCE_FILE: &str = "The file with the source";
+pub(crate) const SOURCE_FILE: &str = "The file with the source: its name has no - in front";
 pub(crate) const CERTIFICATE_FILE: &str = "The file with the certificate";
 pub(crate) const SCRIPT_FILE: &str = "The file with the script";
-pub(crate) const LOOPS: &str = "How many loops it has: 1 to 64";
-pub(crate) const CERTIFICATE: &str = "Print a certificate of the condition";
-pub(crate) const FACTS_DOMAIN: &str = "boxes: bounds of each variable; polyhedra: rows over several";
-pub(crate) const QUICK_DOMAIN: &str = "rows: what is needed, carried back; boxes: bounds of each variable";
+pub(crate) const LOOPS: &str = "From 1 to 64, in digits alone";
+pub(crate) const CERTIFICATE: &str = "Prints a certificate of the condition";
+pub(crate) const FACTS_DOMAIN: &str = "boxes (bounds of variables) or polyhedra (rows over several)";
+pub(crate) const QUICK_DOMAIN: &str = "rows (what is needed, carried back) or boxes (bounds)";
 
-/// Of words that are read, but are no command.
-pub(crate) const NO_COMMAND: &str = "error: the values are none that the command takes: see its help\n";
+/// Of words that `clap` reads, and that are no command all the same.
+pub(crate) const NO_COMMAND: &str = "\
+error: a file is named by a word that is not empty and has no - in front, N is from 1 to 64 in
+digits alone, and DOMAIN is one that the help of the command names
+";
