@@ -56,5 +56,5 @@ fn help_and(alloc: Global, told: &str) -> Result<Text, NoMemory> {
 
 /// The help of the whole command.
 fn whole_help(alloc: Global) -> Result<String, AllocError> {
-    precond_command(alloc)?.render_long_help()
+    precond_command(alloc)?.render_help()
 }

@@ -47,6 +47,7 @@ Status:
 
 /// Of `infer`.
 pub(crate) const INFER: &str = "Prints a condition from which no run violates an assertion";
+
 pub(crate) const INFER_BELOW: &str = "\
 Prints a line for each alternative: suffices: and the rows that the parameters have to meet, true
 where every caller is safe, or false where nothing was found. With --certificate it prints, in place
@@ -58,6 +59,7 @@ Examples:
 
 /// Of `replay`.
 pub(crate) const REPLAY: &str = "Checks a certificate, whoever made it, and prints its condition";
+
 pub(crate) const REPLAY_BELOW: &str = "\
 Prints accepted and the condition, or refused: and the first thing that is wrong, with status 1.
 
@@ -66,6 +68,7 @@ Example:
 
 /// Of `run`.
 pub(crate) const RUN: &str = "Prints how a program runs over the choices of a script";
+
 pub(crate) const RUN_BELOW: &str = "\
 Prints one line, which begins with violated, and has status 1; with blocked, ended or going; or with
 past, and has status 9. A script has a line entry with a value for each parameter, and a line choose
@@ -76,6 +79,7 @@ Example:
 
 /// Of `facts`.
 pub(crate) const FACTS: &str = "Prints what a domain knows at each point of a program";
+
 pub(crate) const FACTS_BELOW: &str = "\
 Prints a line for each point: the rows that every state meets which some run brings there, or
 nothing where none comes.
@@ -86,6 +90,7 @@ Examples:
 
 /// Of `quick`.
 pub(crate) const QUICK: &str = "Prints a condition that one domain finds, going backwards";
+
 pub(crate) const QUICK_BELOW: &str = "\
 Prints one line: suffices: and the rows that the parameters have to meet. It may ask for more than
 infer does.
@@ -96,12 +101,14 @@ Examples:
 
 /// Of `show`.
 pub(crate) const SHOW: &str = "Prints a program as it was understood, in its canonical text";
+
 pub(crate) const SHOW_BELOW: &str = "\
 Example:
   precond show copy";
 
 /// Of `trial`.
 pub(crate) const TRIAL: &str = "Prints the size and the condition of a made source with N loops";
+
 pub(crate) const TRIAL_BELOW: &str = "\
 Prints how many bytes, points, edges and alternatives there are, and the condition. It reads no
 file, and shows how the time grows.
@@ -111,11 +118,18 @@ Example:
 
 /// Behind the values and options.
 pub(crate) const SOURCE_FILE: &str = "The file with the source: its name has no - in front";
+
 pub(crate) const CERTIFICATE_FILE: &str = "The file with the certificate";
+
 pub(crate) const SCRIPT_FILE: &str = "The file with the script";
+
 pub(crate) const LOOPS: &str = "From 1 to 64, in digits alone";
+
 pub(crate) const CERTIFICATE: &str = "Prints a certificate of the condition";
-pub(crate) const FACTS_DOMAIN: &str = "boxes (bounds of variables) or polyhedra (rows over several)";
+
+pub(crate) const FACTS_DOMAIN: &str =
+    "boxes (bounds of variables) or polyhedra (rows over several)";
+
 pub(crate) const QUICK_DOMAIN: &str = "rows (what is needed, carried back) or boxes (bounds)";
 
 /// Of words that `clap` reads, and that are no command all the same.

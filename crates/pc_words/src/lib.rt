@@ -9,7 +9,6 @@ mod guidance;
 mod help;
 mod loops;
 mod subcommands;
-
 mod words;
 mod writing;
 

@@ -41,8 +41,10 @@ pub(crate) fn run<'a>(alloc: Global) -> Result<Command<'a>, AllocError>
 pub(crate) fn facts<'a>(alloc: Global) -> Result<Command<'a>, AllocError>
     ensures { IfOk result (λ c. IsSubcommand c (subcommand (codes "facts") (first ∷ domain ∷ []))) }
 {
-    let command =
-        of_one(alloc, "facts", source_arg(alloc))?.arg(domain_arg(alloc, help::FACTS_DOMAIN))?;
+    let command = of_one(alloc, "facts", source_arg(alloc))?.arg(domain_arg(
+        alloc,
+        help::FACTS_DOMAIN,
+    ))?;
     Ok(told(command, help::FACTS, help::FACTS_BELOW))
 }
 
@@ -50,8 +52,10 @@ pub(crate) fn facts<'a>(alloc: Global) -> Result<Command<'a>, AllocError>
 pub(crate) fn quick<'a>(alloc: Global) -> Result<Command<'a>, AllocError>
     ensures { IfOk result (λ c. IsSubcommand c (subcommand (codes "quick") (first ∷ domain ∷ []))) }
 {
-    let command =
-        of_one(alloc, "quick", source_arg(alloc))?.arg(domain_arg(alloc, help::QUICK_DOMAIN))?;
+    let command = of_one(alloc, "quick", source_arg(alloc))?.arg(domain_arg(
+        alloc,
+        help::QUICK_DOMAIN,
+    ))?;
     Ok(told(command, help::QUICK, help::QUICK_BELOW))
 }
 

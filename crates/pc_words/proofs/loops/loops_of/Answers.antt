@@ -1,4 +1,4 @@
-use Rattle.std.proofs.Common.{◌≡◌, ap, sym, ◌∙◌}
+use Rattle.std.proofs.Common.{ap, sym, ◌∙◌}
 use Rattle.pc_text.specs.Words.{count_of}
 use Rattle.pc_words.proofs.LoopLemmas.{told, telling, told_once}
 use Rattle.pc_words.proofs.loops.loops_of.Goals as goal
