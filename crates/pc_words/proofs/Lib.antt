@@ -1,1 +1,6 @@
 pub mod WordLemmas
+pub mod LoopLemmas
+pub mod Adding
+pub mod SimpleCommand
+pub mod Plainness
+mod Examples

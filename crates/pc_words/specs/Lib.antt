@@ -2,4 +2,3 @@ pub mod Words
 pub mod CommandLine
 pub mod Taken
 pub mod Building
-pub mod Examples

@@ -1,5 +1,5 @@
 -- Which words order what, with those that are in no plain form.
-use Rattle.std.specs.Prelude.{◌≡◌, ◌⊎◌, List, Option, Some, None}
+use Rattle.std.specs.Prelude.{◌≡◌, ◌⊎◌, List}
 use Rattle.pc_text.specs.Bytes.{Bytes}
 use Rattle.pc_words.specs.Words.{Order, IsOrder, IsPlain}
 use Rattle.pc_words.specs.CommandLine.{Accepts, written}

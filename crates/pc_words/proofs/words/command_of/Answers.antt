@@ -11,7 +11,7 @@ returns-in-len2 c =
 
 pub returns-in-len3 : goal.returns-in-len3
 returns-in-len3 c =
-    let words = three_of string_bytes c.args.words.now c.verb-item-then-words-lt4.result c.source-item-then-words-lt4.result c.third-item.result c.in-len3.len_at_least c.in-len3.len_below c.verb-item-then-words-lt4.is c.source-item-then-words-lt4.is c.third-item.is in
+    let words = three_of string_bytes c.args.words.now c.verb-item-then-words-lt4.result c.source-item.result c.third-item.result c.in-len3.len_at_least c.in-len3.len_below c.verb-item-then-words-lt4.is c.source-item.is c.third-item.is in
     rw words (rw (c.as_str-in-len3.ensures.value, c.as_str-in-len3-2.ensures.value, c.as_str-in-len3-3.ensures.value) at c.of_three_words.ensures)
 
 pub returns-in_default : goal.returns-in_default
