@@ -12,7 +12,8 @@ use Rattle.pc_runner.specs.declared.verdict.Verdict.TheVariants as verdict
 use Rattle.pc_app.specs.declared.status.TheConstants.{DONE, USAGE, REFUSED, MALFORMED, TOO_LONG, FAILED, PAST}
 use Rattle.pc_app.specs.Rulings.{ruling_status}
 use Rattle.pc_app.specs.Verdicts.{verdict_status}
-use Rattle.pc_app.specs.Words.{Order, Infer, Certify, Replay, Run, Show, Facts, Inputs, Source, WithCertificate, WithScript, inputs_of, IsOrder, IsPlain}
+use Rattle.pc_words.specs.Words.{Order, Infer, Certify, Replay, Run, Facts, Quick, Show, Trial, Inputs, NoFile, Source, WithCertificate, WithScript, inputs_of}
+use Rattle.pc_words.specs.Taken.{AreCommand, Orders}
 use Rattle.pc_app.specs.Files.{Kind, MayHold, MayMean, OnFile}
 use Rattle.pc_app.specs.Files.OnFile.{IsRefused, IsRead}
 use Rattle.pc_app.specs.Kinds.{source_kind, script_kind, certificate_kind}
@@ -20,7 +21,7 @@ use Rattle.pc_app.specs.Answers.{Answers, Given, Says, OnCertificate, OnScript, 
 use Rattle.pc_app.specs.Answers.Answers.{Unknown, Known}
 use Rattle.pc_app.specs.Causes.{IsRuling, IsVerdict, IsEnd}
 use Rattle.pc_app.specs.Promises.{OfBytes, IsAnswered}
-use Rattle.pc_app.proofs.SpellingLemmas.{same_order}
+use Rattle.pc_words.proofs.Spelling.{same_order}
 
 -- ---- the statuses with which an order is answered
 
@@ -74,6 +75,7 @@ module _ (status : ℕ) (text : Bytes) where
   AllEnd inputs A = (given : Given inputs) → A given status text → IsEnd inputs status
 
   inputs_usual : (held : Bytes → Holding) (inputs : Inputs) (A : Given inputs → ℕ → Bytes → Type 0) → AllEnd inputs A → OnInputs held inputs A status text → Usual status
+  inputs_usual held NoFile A ends a = usual status (inl (ends tt a))
   inputs_usual held (Source source) A ends a = source_usual A (held source) (λ p b. usual status (inl (ends p b))) a
   inputs_usual held (WithCertificate source certificate) A ends a =
       source_usual (OnCertificate (held certificate) A) (held source) (λ p b. file_usual certificate_kind (λ c. A (p, c)) (held certificate) (inr refl) (λ c r. ruling_usual (ends (p, c) r)) b) a
@@ -85,8 +87,10 @@ module _ (status : ℕ) (text : Bytes) where
   says_ends (Certify source) p a = a.status_is
   says_ends (Replay source certificate) given a = of_ruling status (ruling_on (graph given.0) given.1) a.status_is
   says_ends (Run source script) given a = of_verdict status a.verdict a.status_is
-  says_ends (Show source) p a = a.status_is
   says_ends (Facts domain source) p a = a.status_is
+  says_ends (Quick domain source) p a = a.status_is
+  says_ends (Show source) p a = a.status_is
+  says_ends (Trial loops) given a = a.status_is
 
   order_usual : (held : Bytes → Holding) (order : Order) → OrderAnswers held order status text → Usual status
   order_usual held order a = inputs_usual held (inputs_of order) (Says order) (says_ends order) a
@@ -122,15 +126,15 @@ of_bytes P (Held bytes) here nowhere = here bytes refl
 
 module _ (words : List Bytes) (held : Bytes → Holding) (status : ℕ) (text : Bytes) where
   -- words that are an order are answered as the order
-  pub order_answers : (order : Order) → IsOrder words order → Answers words held status text → OrderAnswers held order status text
-  order_answers order is (Unknown none s t) = absurd (none (order, is))
+  pub order_answers : (order : Order) → Orders words order → Answers words held status text → OrderAnswers held order status text
+  order_answers order is (Unknown none s) = absurd (none (order, is))
   order_answers order is (Known other that a) = subst (λ (o : Order). OrderAnswers held o status text) (same_order words order other is that) a
 
   pub answers_is_answered : Answers words held status text → IsAnswered status
-  answers_is_answered (Unknown none s t) = (omega arith, omega arith, omega arith)
+  answers_is_answered (Unknown none s) = (omega arith, omega arith, omega arith)
   answers_is_answered (Known order is a) = (order_usual status text held order a).answered
 
-  -- the usage is the answer to words in no plain form, and to no others
-  pub answers_usage : Answers words held status text → (status ≡ USAGE) ↔ (IsPlain words → ⊥)
-  answers_usage (Unknown none s t) = (λ e. none, λ o. s)
+  -- the usage is the answer to words that order nothing, and to no others
+  pub answers_usage : Answers words held status text → (status ≡ USAGE) ↔ (AreCommand words → ⊥)
+  answers_usage (Unknown none s) = (λ e. none, λ o. s)
   answers_usage (Known order is a) = (λ e. absurd ((order_usual status text held order a).known e), λ o. absurd (o (order, is)))

@@ -20,7 +20,7 @@ use Rattle.pc_box.specs.Laws.{IsTheBoxAt}
 use Rattle.pc_box.specs.Views.{view_of, box_says}
 use Rattle.pc_box.proofs.Answering.{fold_is_box_at, rows_are_box_rows}
 use Rattle.pc_facts.specs.Facts.{OfFold, IsFacts}
-use Rattle.pc_app.specs.declared.domains.FactsDomain.TheVariants as domains
+use Rattle.pc_words.specs.declared.domains.FactsDomain.TheVariants as domains
 use Rattle.pc_app.specs.Known.{AreFacts}
 
 module _ (g : Flow) (rows : List (List Linear)) (is : IsGraph g) (none : NoHeads g.points) (fold : OfFold box_says g rows) where

@@ -13,7 +13,8 @@ use Rattle.pc_flow.specs.Flow.{Flow}
 use Rattle.pc_replay.specs.Rule.{ruling}
 use Rattle.pc_runner.specs.Scripts.{Choosing}
 use Rattle.pc_runner.proofs.Sayings.{says_only}
-use Rattle.pc_app.specs.Words.{Order, Infer, Certify, Replay, Run, Show, Facts, Inputs, Source, WithCertificate, WithScript, inputs_of, names_of, IsOrder, files_of}
+use Rattle.pc_words.specs.Words.{Order, Infer, Certify, Replay, Run, Facts, Quick, Show, Trial, Inputs, NoFile, Source, WithCertificate, WithScript, inputs_of, names_of, files_of}
+use Rattle.pc_words.specs.Taken.{Orders}
 use Rattle.pc_app.specs.Rulings.{ruling_status}
 use Rattle.pc_app.specs.Verdicts.{verdict_status}
 use Rattle.pc_app.specs.Files.{Kind, MayHold, HasBytes, OnFile}
@@ -50,6 +51,7 @@ not_both limit held told a b holds more has =
 
 -- files mean the same: programs are equal but for their proofs
 abbrev AreSame : (inputs : Inputs) → Given inputs → Given inputs → Type 0
+AreSame NoFile g h = Unit {0}
 AreSame (Source source) p q = content_of p ≡ content_of q
 AreSame (WithCertificate source certificate) g h = (content_of g.0 ≡ content_of h.0) × (g.1 ≡ h.1)
 AreSame (WithScript source script) g h = (content_of g.0 ≡ content_of h.0) × (g.1 ≡ h.1)
@@ -106,6 +108,7 @@ module _ (s : ℕ) (t : Bytes) (s' : ℕ) (t' : Bytes) where
   -- two answers to the files of an order have one status
   inputs_once : (held : Bytes → Holding) (inputs : Inputs) (A : Given inputs → ℕ → Bytes → Type 0) → AreTold held (names_of inputs) →
       ((g h : Given inputs) → AreSame inputs g h → A g s t → A h s' t' → s ≡ s') → OnInputs held inputs A s t → OnInputs held inputs A s' t' → s ≡ s'
+  inputs_once held NoFile A told one x y = one tt tt tt x y
   inputs_once held (Source source) A told one x y = source_once A A (held source) told.0 one x y
   inputs_once held (WithCertificate source certificate) A told one x y =
       source_once (OnCertificate (held certificate) A) (OnCertificate (held certificate) A) (held source) told.0
@@ -121,13 +124,15 @@ module _ (s : ℕ) (t : Bytes) (s' : ℕ) (t' : Bytes) where
   says_once (Certify source) g h same x y = x.status_is ∙ sym y.status_is
   says_once (Replay source certificate) g h same x y = ruling_once g.0 h.0 same.0 g.1 h.1 same.1 x y
   says_once (Run source script) g h same x y = verdict_once g.0 h.0 same.0 g.1 h.1 same.1 x y
-  says_once (Show source) g h same x y = x.status_is ∙ sym y.status_is
   says_once (Facts domain source) g h same x y = x.status_is ∙ sym y.status_is
+  says_once (Quick domain source) g h same x y = x.status_is ∙ sym y.status_is
+  says_once (Show source) g h same x y = x.status_is ∙ sym y.status_is
+  says_once (Trial loops) g h same x y = x.status_is ∙ sym y.status_is
 
   pub order_once : (held : Bytes → Holding) (order : Order) → AreTold held (files_of order) → OrderAnswers held order s t → OrderAnswers held order s' t' → s ≡ s'
   order_once held order told x y = inputs_once held (inputs_of order) (Says order) told (says_once order) x y
 
-  pub words_once : (words : List Bytes) (held : Bytes → Holding) → ((order : Order) → IsOrder words order → AreTold held (files_of order)) → Answers words held s t → Answers words held s' t' → s ≡ s'
-  words_once words held told (Unknown none e u) (Unknown none' e' u') = e ∙ sym e'
-  words_once words held told (Unknown none e u) (Known order is y) = absurd (none (order, is))
+  pub words_once : (words : List Bytes) (held : Bytes → Holding) → ((order : Order) → Orders words order → AreTold held (files_of order)) → Answers words held s t → Answers words held s' t' → s ≡ s'
+  words_once words held told (Unknown none e) (Unknown none' e') = e ∙ sym e'
+  words_once words held told (Unknown none e) (Known order is y) = absurd (none (order, is))
   words_once words held told (Known order is x) b = order_once held order (told order is) x (order_answers words held s' t' order is b)

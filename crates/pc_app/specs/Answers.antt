@@ -18,11 +18,14 @@ use Rattle.pc_app.specs.declared.status.TheConstants.{DONE, USAGE}
 use Rattle.pc_app.specs.declared.limits.TheConstants.{CERTIFICATE_BYTES}
 use Rattle.pc_app.specs.Files.{OnFile}
 use Rattle.pc_app.specs.Kinds.{source_kind, script_kind, certificate_kind}
-use Rattle.pc_app.specs.Words.{Order, Infer, Certify, Replay, Run, Show, Facts, Inputs, Source, WithCertificate, WithScript, inputs_of, IsOrder, IsPlain}
-use Rattle.pc_app.specs.declared.domains.FactsDomain.{FactsDomain}
+use Rattle.pc_words.specs.Words.{Order, Infer, Certify, Replay, Run, Facts, Quick, Show, Trial, Inputs, NoFile, Source, WithCertificate, WithScript, inputs_of}
+use Rattle.pc_words.specs.Taken.{AreCommand, Orders}
+use Rattle.pc_words.specs.declared.domains.FactsDomain.{FactsDomain}
+use Rattle.pc_words.specs.declared.domains.QuickDomain.{QuickDomain}
 use Rattle.pc_app.specs.Inferred.{Inferred}
 use Rattle.pc_app.specs.Known.{AreFacts}
-use Rattle.pc_app.specs.Texts.{usage}
+use Rattle.pc_app.specs.Enough.{AreEnough}
+use Rattle.pc_app.specs.Trials.{TrialAnswers}
 use Rattle.pc_app.specs.Rulings.{ruling_status, ruling_text}
 use Rattle.pc_app.specs.Verdicts.{verdict_status, verdict_text}
 
@@ -64,6 +67,11 @@ pub record FactsAnswers (domain : FactsDomain) (p : Program) (status : ℕ) (tex
   pub facts : AreFacts domain p text
   pub status_is : status ≡ DONE
 
+-- how `quick` answers a program: by a condition that a domain finds going back
+pub record QuickAnswers (domain : QuickDomain) (p : Program) (status : ℕ) (text : Bytes) : Type 0 where
+  pub quick : AreEnough domain p text
+  pub status_is : status ≡ DONE
+
 -- how a program is answered with a certificate, or with a script
 abbrev pub OnReplay : Holding → Program → ℕ → Bytes → Type 0
 OnReplay held p status text = OnFile certificate_kind (ReplayAnswers p) held status text
@@ -73,6 +81,7 @@ OnRun held p status text = OnFile (script_kind p.names.params) (RunAnswers p) he
 
 -- what the files of an order mean
 abbrev pub Given : Inputs → Type 0
+Given NoFile = Unit {0}
 Given (Source source) = Program
 Given (WithCertificate source certificate) = Program × Certificate
 Given (WithScript source script) = Program × Choosing
@@ -83,8 +92,10 @@ Says (Infer source) = InferAnswers
 Says (Certify source) = CertifyAnswers
 Says (Replay source certificate) = λ given. ReplayAnswers given.0 given.1
 Says (Run source script) = λ given. RunAnswers given.0 given.1
-Says (Show source) = ShowAnswers
 Says (Facts domain source) = FactsAnswers domain
+Says (Quick domain source) = QuickAnswers domain
+Says (Show source) = ShowAnswers
+Says (Trial loops) = λ given. TrialAnswers loops
 
 -- a program and the certificate, or the script, behind it
 abbrev pub OnCertificate : Holding → (Program × Certificate → ℕ → Bytes → Type 0) → Program → ℕ → Bytes → Type 0
@@ -95,6 +106,7 @@ OnScript held A p = OnFile (script_kind p.names.params) (λ c. A (p, c)) held
 
 -- files are answered, one after the other, where their meanings are answered so
 abbrev pub OnInputs : (Bytes → Holding) → (inputs : Inputs) → (Given inputs → ℕ → Bytes → Type 0) → ℕ → Bytes → Type 0
+OnInputs held NoFile A = A tt
 OnInputs held (Source source) A = OnFile source_kind A (held source)
 OnInputs held (WithCertificate source certificate) A = OnFile source_kind (OnCertificate (held certificate) A) (held source)
 OnInputs held (WithScript source script) A = OnFile source_kind (OnScript (held script) A) (held source)
@@ -103,7 +115,7 @@ OnInputs held (WithScript source script) A = OnFile source_kind (OnScript (held 
 abbrev pub OrderAnswers : (Bytes → Holding) → Order → ℕ → Bytes → Type 0
 OrderAnswers held order = OnInputs held (inputs_of order) (Says order)
 
--- how words are answered
+-- how words are answered: those that order nothing by whatever is told of the use
 pub data Answers (words : List Bytes) (held : Bytes → Holding) (status : ℕ) (text : Bytes) : Type 0 where
-  Unknown : (IsPlain words → ⊥) → status ≡ USAGE → text ≡ usage → Answers words held status text
-  Known : (order : Order) → IsOrder words order → OrderAnswers held order status text → Answers words held status text
+  Unknown : (AreCommand words → ⊥) → status ≡ USAGE → Answers words held status text
+  Known : (order : Order) → Orders words order → OrderAnswers held order status text → Answers words held status text

@@ -9,8 +9,8 @@ use Rattle.pc_graph.specs.Lowering.{graph}
 use Rattle.pc_box.specs.Boxes.{rows_of}
 use Rattle.pc_box.specs.BoxAt.{boxes_of}
 use Rattle.pc_facts.specs.Lines.{lines_from}
-use Rattle.pc_app.specs.declared.domains.FactsDomain.{FactsDomain}
-use Rattle.pc_app.specs.declared.domains.FactsDomain.TheVariants as domains
+use Rattle.pc_words.specs.declared.domains.FactsDomain.{FactsDomain}
+use Rattle.pc_words.specs.declared.domains.FactsDomain.TheVariants as domains
 
 -- what a domain promises beyond. Boxes: of a program without loops the rows are exactly those of the box at each point
 abbrev pub IsExact : FactsDomain → Program → List (List Linear) → Type 0

@@ -4,10 +4,9 @@ ghost use Rattle.std.specs.Prelude.{◌≡◌, ℕ, List, IfOk};
 ghost use Rattle.pc_graph.specs.Lowering.{graph};
 ghost use Rattle.pc_app.specs.Known.{AreFacts};
 ghost use Rattle.pc_app.specs.Reading.{OrderIs};
-ghost use Rattle.pc_app.specs.Words.{Facts};
+ghost use Rattle.pc_words.specs.Words.{Facts};
 
 use crate::answer::{Answer, Stop};
-use crate::domains::FactsDomain;
 use crate::files::source_in;
 use crate::status::DONE;
 use pc_box::Box16;
@@ -17,6 +16,7 @@ use pc_graph::lower;
 use pc_ports::Store;
 use pc_program::Program;
 use pc_text::{NoMemory, Text};
+use pc_words::FactsDomain;
 use std::alloc::Global;
 
 /// The answer to `facts`.

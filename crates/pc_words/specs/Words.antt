@@ -50,16 +50,33 @@ words_of (Quick domain source) = codes "quick" ∷ source ∷ quick_word domain 
 words_of (Show source) = codes "show" ∷ source ∷ []
 words_of (Trial loops) = codes "trial" ∷ numeral (pos loops) ∷ []
 
--- the files that it names
+-- the files that are read for an order, one after the other: none, a source alone, or a certificate or a script behind it
+pub data Inputs : Type 0 where
+  NoFile : Inputs
+  Source : Bytes → Inputs
+  WithCertificate : Bytes → Bytes → Inputs
+  WithScript : Bytes → Bytes → Inputs
+
+abbrev pub inputs_of : Order → Inputs
+inputs_of (Infer source) = Source source
+inputs_of (Certify source) = Source source
+inputs_of (Replay source certificate) = WithCertificate source certificate
+inputs_of (Run source script) = WithScript source script
+inputs_of (Facts domain source) = Source source
+inputs_of (Quick domain source) = Source source
+inputs_of (Show source) = Source source
+inputs_of (Trial loops) = NoFile
+
+-- their names
+abbrev pub names_of : Inputs → List Bytes
+names_of NoFile = []
+names_of (Source source) = source ∷ []
+names_of (WithCertificate source certificate) = source ∷ certificate ∷ []
+names_of (WithScript source script) = source ∷ script ∷ []
+
+-- the files that an order names
 abbrev pub files_of : Order → List Bytes
-files_of (Infer source) = source ∷ []
-files_of (Certify source) = source ∷ []
-files_of (Replay source certificate) = source ∷ certificate ∷ []
-files_of (Run source script) = source ∷ script ∷ []
-files_of (Facts domain source) = source ∷ []
-files_of (Quick domain source) = source ∷ []
-files_of (Show source) = source ∷ []
-files_of (Trial loops) = []
+files_of order = names_of (inputs_of order)
 
 -- the number of loops that it names
 abbrev pub loops_of : Order → List ℕ
@@ -81,38 +98,6 @@ pub record IsOrder (words : List Bytes) (order : Order) : Type 0 where
 -- words in a plain form
 abbrev pub IsPlain : List Bytes → Type 0
 IsPlain words = (order : Order) × IsOrder words order
-
--- the words `infer F`
-abbrev pub IsInfer : List Bytes → Bytes → Type 0
-IsInfer words source = IsOrder words (Infer source)
-
--- the words `infer F --certificate`
-abbrev pub IsCertify : List Bytes → Bytes → Type 0
-IsCertify words source = IsOrder words (Certify source)
-
--- the words `replay F C`
-abbrev pub IsReplay : List Bytes → Bytes → Bytes → Type 0
-IsReplay words source certificate = IsOrder words (Replay source certificate)
-
--- the words `run F S`
-abbrev pub IsRun : List Bytes → Bytes → Bytes → Type 0
-IsRun words source script = IsOrder words (Run source script)
-
--- the words `facts F --domain=D`
-abbrev pub IsFacts : List Bytes → FactsDomain → Bytes → Type 0
-IsFacts words domain source = IsOrder words (Facts domain source)
-
--- the words `quick F --domain=D`
-abbrev pub IsQuick : List Bytes → QuickDomain → Bytes → Type 0
-IsQuick words domain source = IsOrder words (Quick domain source)
-
--- the words `show F`
-abbrev pub IsShow : List Bytes → Bytes → Type 0
-IsShow words source = IsOrder words (Show source)
-
--- the words `trial N`
-abbrev pub IsTrial : List Bytes → ℕ → Type 0
-IsTrial words loops = IsOrder words (Trial loops)
 
 -- the order of a command
 abbrev pub ordered : Command → Order

@@ -1,7 +1,7 @@
 use Rattle.std.proofs.lemmas.Result.{IfOk-weaker}
 use Rattle.pc_facts.specs.Facts.{IsFacts}
 use Rattle.pc_box.specs.contracts.member.Box16Forward.TheImpl.{ghosts as boxes}
-use Rattle.pc_app.specs.declared.domains.FactsDomain.TheVariants as domains
+use Rattle.pc_words.specs.declared.domains.FactsDomain.TheVariants as domains
 use Rattle.pc_app.specs.Known.{AreFacts}
 use Rattle.pc_app.proofs.FactLemmas.{boxes_are_facts}
 use Rattle.pc_app.proofs.facts.boxes_of.Goals as goal
