@@ -25,7 +25,7 @@ use Rattle.pc_fixpoint.proofs.Landing.{flows_lands}
 use Rattle.pc_fixpoint.proofs.Pointing.{rises}
 
 -- the state at the entry has a value for each variable
-entered_long : (g : Flow) (s : State) → g.params ≤ g.variables → length s ≡ g.params → length (entered g s) ≡ g.variables
+pub entered_long : (g : Flow) (s : State) → g.params ≤ g.variables → length s ≡ g.params → length (entered g s) ≡ g.variables
 entered_long g s le long =
     let zeros = length-replicate (g.variables - g.params) (pos 0) in
     length-append s (replicate (g.variables - g.params) (pos 0)) ∙ omega arith

@@ -18,6 +18,7 @@ pub fn entry_condition<B: Backward>(alloc: Global, g: &Graph) -> Result<Items<Ro
     ensures safe { IfOk result (AreSafe g.now) }
     ensures folded { IfOk result (λ rows. NoHeads g.now.points → (views : List View) × IsBackFold B.says g.now views × IsSomeAnd (slice_get views 0) (λ v. B.says.rows v g.now.params rows)) }
 {
+    let params = g.params();
     let values = backward::<B>(alloc, g)?;
-    values.as_slice()[0].entry_rows(alloc, g.params())
+    values.as_slice()[0].entry_rows(alloc, params)
 }
