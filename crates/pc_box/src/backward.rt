@@ -1,7 +1,7 @@
 //! Boxes as a backward domain.
 
 ghost use Rattle.std.specs.Prelude.{◌≡◌, Some, IfOk};
-ghost use Rattle.pc_flow.specs.Arc.{Enter};
+ghost use Rattle.pc_flow.specs.declared.what.What.TheVariants.{Enter};
 ghost use Rattle.pc_box.specs.declared.limits.TheConstants.{NARROWING_ROUND};
 ghost use Rattle.pc_box.specs.Boxes.{HasBox, rows_of};
 ghost use Rattle.pc_box.specs.Meeting.{both_of, is_box_within};
