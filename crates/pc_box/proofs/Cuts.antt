@@ -33,7 +33,7 @@ module _ (s : State) where
       by true e = absurd (cc)
       by false e = has_put b.intervals x i s s has here (λ v other. refl)
 
-  has_cut_terms : (b : Bounded) (c : ℤ) (ts : List (ℕ × ℤ)) → HasBounds b.intervals s → Each (λ t. t.1 ≢ pos 0) ts → pos 0 ≤ℤ sum_over c ts s → HasBox (cut_terms b c ts) s
+  pub has_cut_terms : (b : Bounded) (c : ℤ) (ts : List (ℕ × ℤ)) → HasBounds b.intervals s → Each (λ t. t.1 ≢ pos 0) ts → pos 0 ≤ℤ sum_over c ts s → HasBox (cut_terms b c ts) s
   has_cut_terms b c [] has some h = by (int_lt c (pos 0)) refl
     where
       by : (low : Bool) → int_lt c (pos 0) ≡ low → HasBox (cond low None (Some b)) s
@@ -44,7 +44,7 @@ module _ (s : State) where
       has_narrowed b t.0 (cut t.1 c (interval_at b.intervals t.0)) has ((cutting_is_exact t.1 c (interval_at b.intervals t.0) (at s t.0) some.0).1 (has t.0, meets))
   has_cut_terms b c (t ∷ u ∷ ts) has some h = has
 
-  has_cut_row : (b : Box) (r : Linear) → HasBox b s → Meets s r → HasBox (cut_row b r) s
+  pub has_cut_row : (b : Box) (r : Linear) → HasBox b s → Meets s r → HasBox (cut_row b r) s
   has_cut_row None r has meets = absurd has
   has_cut_row (Some b) r has meets = has_cut_terms b r.constant (terms_of r) has (terms_are_some r) (subst (λ (z : ℤ). pos 0 ≤ℤ z) (value_is_walk r s) meets)
 

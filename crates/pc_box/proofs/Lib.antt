@@ -10,3 +10,6 @@ pub mod Widening
 pub mod Telling
 pub mod Viewing
 pub mod Answering
+pub mod Intersecting
+pub mod Claims
+pub mod Backs
