@@ -13,3 +13,7 @@ pub mod Answering
 pub mod Intersecting
 pub mod Claims
 pub mod Backs
+pub mod Small
+pub mod Sharp
+pub mod Entered
+pub mod Exactly
