@@ -29,7 +29,7 @@ use Rattle.pc_box.proofs.Claims.{put_tells, cut_tells, cut_terms_tells, claimed_
 use Rattle.pc_box.proofs.Ends.{in_within}
 use Rattle.pc_box.proofs.Steps.{before_stays, below_tells}
 use Rattle.pc_box.proofs.Sums.{IsInside}
-use Rattle.pc_box.proofs.Tables.{at_tabulated, past_tabulated, tabulated_long, past_end, within_or_past, all_true}
+use Rattle.pc_box.proofs.Tables.{at_tabulated, tabulated_long, past_end, within_or_past, all_true}
 use Rattle.pc_box.proofs.Telling.{box_rows_tell}
 use Rattle.pc_box.proofs.Walks.{value_is_walk, terms_are_some}
 

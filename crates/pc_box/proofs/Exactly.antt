@@ -1,27 +1,25 @@
 -- Without tests and loops the boxes going back have exactly the states from which no walk comes to an assertion that does not hold.
-use Rattle.std.proofs.Common.{◌≡◌, ◌∙◌, ℕ, zero, suc, ◌+◌, ◌-◌, ◌*◌, ◌<◌, ◌≤◌, ◌^◌, List, [], ◌∷◌, length, Option, Some, None, slice_get, refl, sym, ap, subst, arith, inl, inr, eq-eqb}
-use Rattle.std.specs.Prelude.{◌⊎◌, ◌↔◌, ◌==◌, slice_index_or}
+use Rattle.std.proofs.Common.{◌≡◌, ◌∙◌, ℕ, zero, suc, ◌+◌, ◌-◌, ◌*◌, ◌<◌, ◌≤◌, List, [], ◌∷◌, length, Option, Some, None, slice_get, refl, sym, ap, subst, arith, inl, inr, eq-eqb}
+use Rattle.std.specs.Prelude.{◌↔◌, ◌==◌, slice_index_or}
 use Rattle.std.specs.List.{AllByRecursion as Each}
 use Rattle.std.proofs.lemmas.Bool.{eqb-true}
 use Rattle.std.proofs.lemmas.Option.{slice_get-get_or}
-use Rattle.pc_language.specs.declared.limits.TheConstants.{EDGES}
 use Rattle.pc_rows.specs.Linear.{Linear, State, MeetsAll, zero_from}
 use Rattle.pc_rows.proofs.First.{zero_from_entry}
 use Rattle.pc_flow.specs.declared.what.What.{What}
 use Rattle.pc_flow.specs.declared.what.What.TheVariants.{Enter}
 use Rattle.pc_flow.specs.Arc.{Arc}
-use Rattle.pc_flow.specs.Carry.{HasVariable}
 use Rattle.pc_flow.specs.Flow.{Flow}
 use Rattle.pc_flow.specs.Incidence.{leaving}
 use Rattle.pc_flow.specs.Lists.{In}
-use Rattle.pc_flow.specs.Shape.{NoHeads, IsGraph}
-use Rattle.pc_flow.specs.Walk.{Pass, Keeps, Walk, IsEntry, GraphSafe, entered}
+use Rattle.pc_flow.specs.Shape.{IsGraph}
+use Rattle.pc_flow.specs.Walk.{Walk, IsEntry, GraphSafe, entered}
 use Rattle.pc_flow.proofs.Carrying.{same_length}
 use Rattle.pc_flow.proofs.Closed.{closed_is_safe}
 use Rattle.pc_flow.proofs.Lists.{each_at}
 use Rattle.pc_domain.specs.Fold.{Brings, Folds, EbbsTo, IsBackFold}
 use Rattle.pc_domain.specs.View.{View}
-use Rattle.pc_box.proofs.Entered.{entered_long, met_entered}
+use Rattle.pc_domain.proofs.Entered.{entered_long, met_entered}
 use Rattle.pc_domain.proofs.Heads.{has_entry}
 use Rattle.pc_domain.proofs.Options.{some_is}
 use Rattle.pc_domain.proofs.Picking.{picked_in, in_picked}

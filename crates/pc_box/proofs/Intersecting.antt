@@ -1,7 +1,6 @@
 -- An intersection has exactly the states of both boxes.
 use Rattle.std.proofs.Common.{◌≡◌, ◌∙◌, ℕ, ◌<◌, ◌≤◌, max, ℤ, Bool, true, false, cond, List, length, Option, Some, None, refl, sym, ap, subst, arith, inl, inr}
 use Rattle.std.specs.Prelude.{◌⊎◌, ◌↔◌, nat_lt, MatchOption}
-use Rattle.std.proofs.lemmas.Bool.Decides.{nat_tests}
 use Rattle.pc_rows.specs.Laws.{at}
 use Rattle.pc_rows.specs.Linear.{State}
 use Rattle.pc_rows.specs.Substitution.{IsNotBelow, IsNotAbove}

@@ -15,5 +15,4 @@ pub mod Claims
 pub mod Backs
 pub mod Small
 pub mod Sharp
-pub mod Entered
 pub mod Exactly

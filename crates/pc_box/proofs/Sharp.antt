@@ -1,13 +1,13 @@
 -- A box goes back exactly over an edge with small numbers and at most one variable in each form and row.
-use Rattle.std.proofs.Common.{◌≡◌, ◌≢◌, ◌∙◌, ℕ, ◌+◌, ◌<◌, ◌≤◌, ◌^◌, min, ℤ, pos, negsuc, ◌+ℤ◌, ◌-ℤ◌, ◌*ℤ◌, ◌≤ℤ◌, Bool, true, false, cond, List, [], ◌∷◌, length, Option, Some, None, refl, sym, ap, subst, arith, inl, inr}
-use Rattle.std.specs.Prelude.{◌⊎◌, ◌||◌, nat_lt, slice_set}
+use Rattle.std.proofs.Common.{◌≡◌, ◌≢◌, ◌∙◌, ℕ, ◌+◌, ◌<◌, ◌≤◌, ◌^◌, min, ℤ, pos, ◌+ℤ◌, ◌-ℤ◌, ◌*ℤ◌, ◌≤ℤ◌, Bool, true, false, cond, List, [], ◌∷◌, length, Option, Some, None, refl, sym, ap, subst, arith, inl, inr}
+use Rattle.std.specs.Prelude.{◌⊎◌, nat_lt, slice_set}
 use Rattle.std.specs.List.{AllByRecursion as Each}
 use Rattle.std.proofs.lemmas.Int.{ints}
 use Rattle.std.proofs.lemmas.List.{get_or-set_same, get_or-set_other}
 use Rattle.pc_language.specs.Ends.{end_of}
 use Rattle.pc_rows.specs.Bounds.{IsWithin, Within}
 use Rattle.pc_rows.specs.Laws.{at, EndIsWithin}
-use Rattle.pc_rows.specs.Linear.{Linear, State, value, MeetsAll, zero_from, InRange}
+use Rattle.pc_rows.specs.Linear.{Linear, State, value, MeetsAll, zero_from}
 use Rattle.pc_rows.specs.Readers.{terms_of, sum_over}
 use Rattle.pc_rows.specs.Substitution.{IsNotBelow, IsNotAbove, AreOrdered, lesser}
 use Rattle.pc_rows.proofs.Only.{zero_from_at}
@@ -21,10 +21,10 @@ use Rattle.pc_flow.specs.Walk.{Pass, Keeps}
 use Rattle.pc_box.specs.declared.form.Side.{Side}
 use Rattle.pc_box.specs.declared.form.Side.TheVariants.{Least, Greatest}
 use Rattle.pc_box.specs.declared.interval.Interval.{Interval}
-use Rattle.pc_box.specs.Intervals.{free, only_zero, Holds, is_within, least_within, greatest_within, greater}
-use Rattle.pc_box.specs.Boxes.{Bounded, Box, interval_at, all_below, HasBounds, HasBox, put}
-use Rattle.pc_box.specs.Forms.{kept, plus_choice}
-use Rattle.pc_box.specs.Forward.{with_intervals, cut_terms}
+use Rattle.pc_box.specs.Intervals.{free, only_zero, Holds, is_within, greater}
+use Rattle.pc_box.specs.Boxes.{Bounded, Box, interval_at, all_below, HasBounds, HasBox}
+use Rattle.pc_box.specs.Forms.{plus_choice}
+use Rattle.pc_box.specs.Forward.{with_intervals}
 use Rattle.pc_box.specs.Backward.{distance, gap, signed, cut_form, asked, freed, before_set, may_be_zero, firsts, before_enter, before_of}
 use Rattle.pc_box.specs.Exact.{IsOfOne, HasOneVariable, small_bound, HasSmallNumbers}
 use Rattle.pc_box.proofs.Backs.{IsAsked, signed_some, signed_part, signed_none}

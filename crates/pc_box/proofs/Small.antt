@@ -1,6 +1,6 @@
 -- How far the bounds of boxes grow on the way back: over an edge by a form's constant and an end of a choice.
-use Rattle.std.proofs.Common.{◌≡◌, ◌≢◌, ℕ, zero, suc, ◌+◌, ◌<◌, ◌≤◌, min, ℤ, pos, negsuc, ◌+ℤ◌, ◌-ℤ◌, neg_ℤ, Bool, true, false, cond, List, [], ◌∷◌, length, Option, Some, None, refl, sym, subst, arith, inl, inr}
-use Rattle.std.specs.Prelude.{◌⊎◌, ◌==◌, int_lt, unsigned_abs}
+use Rattle.std.proofs.Common.{◌≡◌, ◌≢◌, ℕ, zero, suc, ◌+◌, ◌<◌, ◌≤◌, min, ℤ, pos, negsuc, ◌+ℤ◌, neg_ℤ, Bool, true, false, cond, List, [], ◌∷◌, length, Option, Some, None, refl, sym, subst, arith, inl, inr}
+use Rattle.std.specs.Prelude.{◌⊎◌, ◌==◌, int_lt}
 use Rattle.std.specs.Int.{int_div_euclid}
 use Rattle.std.specs.List.{AllByRecursion as Each}
 use Rattle.std.proofs.lemmas.Bool.Decides.{eqb_tells}
@@ -20,7 +20,7 @@ use Rattle.pc_box.specs.Intervals.{free, is_hollow, greater, raised, lowered, cu
 use Rattle.pc_box.specs.Boxes.{Bounded, Box, interval_at, all_below, put}
 use Rattle.pc_box.specs.Forms.{kept, plus_choice}
 use Rattle.pc_box.specs.Forward.{with_intervals, narrowed, cut_terms}
-use Rattle.pc_box.specs.Meeting.{meet_least, meet_greatest, meets, is_solid_at, solid, both_of}
+use Rattle.pc_box.specs.Meeting.{meet_least, meet_greatest, meets, is_solid_at, both_of}
 use Rattle.pc_box.specs.Backward.{is_implied, claimed_terms, claimed_row, claimed_rows, distance, gap, signed, cut_form, asked, freed, before_set, may_be_zero, firsts, before_enter, before_of}
 use Rattle.pc_box.specs.Exact.{small_bound, HasSmallNumbers}
 use Rattle.pc_box.proofs.Backs.{signed_some}

@@ -2,7 +2,7 @@
 use Rattle.std.specs.Prelude.{◌↔◌, ℕ, ◌≤◌, ◌^◌, List, length, IsSomeAnd, slice_get}
 use Rattle.std.specs.List.{AllByRecursion as Each}
 use Rattle.pc_language.specs.Ends.{end_of}
-use Rattle.pc_rows.specs.Bounds.{IsWithin, Within, AllWithin}
+use Rattle.pc_rows.specs.Bounds.{Within, AllWithin}
 use Rattle.pc_rows.specs.Laws.{EndIsWithin}
 use Rattle.pc_rows.specs.Linear.{Linear, State, MeetsAll}
 use Rattle.pc_rows.specs.Readers.{terms_of}

@@ -1,16 +1,13 @@
 -- After a round in which no head changed no edge leads out, and so the states of the value at the entry are safe.
-use Rattle.std.proofs.Common.{◌≡◌, ◌∙◌, ℕ, ◌-◌, ◌<◌, ◌≤◌, pos, ◌≤ℤ◌, List, [], ◌∷◌, length, get_or, replicate, refl, sym, ap, subst, Some, None, Option, slice_get, arith, inl, inr, Bool, true, false, map, eq-eqb}
+use Rattle.std.proofs.Common.{◌≡◌, ◌∙◌, ℕ, ◌<◌, List, length, get_or, refl, ap, subst, Some, None, Option, slice_get, arith, inl, inr, Bool, true, false, map, eq-eqb}
 use Rattle.std.specs.Prelude.{◌⊎◌, ◌==◌}
 use Rattle.std.specs.Option.{option_map}
 use Rattle.std.proofs.lemmas.List.{length-map}
 use Rattle.std.proofs.lemmas.Option.{slice_get-map, slice_get-get_or}
-use Rattle.pc_rows.specs.Linear.{Linear, State, value, MeetsAll, zero_from}
-use Rattle.pc_rows.proofs.First.{value_at_entry, value_of_first, zero_from_all}
+use Rattle.pc_rows.specs.Linear.{State}
 use Rattle.pc_flow.specs.Arc.{Arc}
-use Rattle.pc_flow.specs.Carry.{HasVariable}
 use Rattle.pc_flow.specs.Flow.{Flow}
 use Rattle.pc_flow.specs.Incidence.{leaving}
-use Rattle.pc_flow.specs.Lists.{In}
 use Rattle.pc_flow.specs.Shape.{NoHeads, IsGraph}
 use Rattle.pc_flow.specs.Walk.{Pass, Keeps, IsEntry, GraphSafe, entered}
 use Rattle.pc_flow.proofs.Assigning.{has_variable}
@@ -20,6 +17,7 @@ use Rattle.pc_domain.specs.declared.backward.Backward.{Ghosts}
 use Rattle.pc_domain.specs.Fold.{EbbsTo, IsBackFold}
 use Rattle.pc_domain.specs.Values.{HasAt, IsBackConsistent}
 use Rattle.pc_domain.proofs.Folding.{folds_seen}
+use Rattle.pc_domain.proofs.Entered.{entered_long}
 use Rattle.pc_domain.proofs.Heads.{leads_of}
 use Rattle.pc_domain.proofs.Options.{some_is, is_some}
 use Rattle.pc_domain.proofs.Picking.{in_picked}
@@ -28,7 +26,6 @@ use Rattle.pc_fixpoint.specs.Ebbing.{Before, Both, Asked}
 use Rattle.pc_fixpoint.specs.Sweeps.{IsEmptyAt, IsAskedAt, Swept}
 use Rattle.pc_fixpoint.proofs.Paying.{ebbs_pays}
 use Rattle.pc_fixpoint.proofs.Pointing.{none_are_heads}
-use Rattle.pc_fixpoint.proofs.Reaching.{entered_long}
 
 module _ {V : Type 0} (d : Ghosts V) (g : Flow) (graph : IsGraph g) (round : ℕ) (before : List Bool) (values : List V) (spent : List Bool)
     (swept : Swept d g round 0 before false values spent) where
@@ -79,11 +76,3 @@ consistent_is_safe has g values graph consistent s entry begin =
     let pays = consistent e m t (has_variable g.variables e.what t (leads_of g graph e m).over h.0) h.1 in
     (pays.0, λ u pass. (same_length e.what t u pass ∙ h.0, pays.1 u pass)))
     (entered_long g s graph.parameters entry, begin)
-
--- an entry state that meets rows meets them with its locals at 0
-pub met_entered : (g : Flow) (rows : List Linear) (s : State) → MeetsAll s rows → MeetsAll (entered g s) rows
-met_entered g [] s h = tt
-met_entered g (r ∷ rows) s h = (subst (λ z. pos 0 ≤ℤ z) (sym same) h.0, met_entered g rows s h.1)
-  where
-    same : value r (entered g s) ≡ value r s
-    same = sym (value_at_entry (length s) (g.variables - g.params) r s refl) ∙ value_of_first (length s) r s ∙ ap (λ (z : State). value r z) (zero_from_all (length s) s (omega arith))

@@ -1,9 +1,8 @@
-use Rattle.std.proofs.Common.{◌≡◌, ◌∙◌, sym, ap, subst}
+use Rattle.std.proofs.Common.{◌≡◌, ◌∙◌, ap, subst}
 use Rattle.std.proofs.lemmas.Result.{IfOk-weaker}
 use Rattle.pc_rows.specs.Linear.{State, MeetsAll, zero_from}
-use Rattle.pc_flow.specs.declared.what.What.TheVariants.{Enter}
-use Rattle.pc_box.specs.Boxes.{Box, HasBox, rows_of}
-use Rattle.pc_box.specs.Backward.{before_of, box_back_says}
+use Rattle.pc_box.specs.Boxes.{HasBox, rows_of}
+use Rattle.pc_box.specs.Backward.{box_back_says}
 use Rattle.pc_box.specs.Views.{view_of}
 use Rattle.pc_box.proofs.Backs.{entry_tells}
 use Rattle.pc_box.proofs.Viewing.{entry_view}
