@@ -1,163 +1,17 @@
 -- From a state of what an edge asks for a box the edge leads into the box alone.
-use Rattle.std.proofs.Common.{◌≡◌, ◌≢◌, ◌∙◌, ℕ, ◌<◌, ◌≤◌, min, ℤ, pos, ◌+ℤ◌, ◌-ℤ◌, ◌*ℤ◌, neg_ℤ, ◌≤ℤ◌, Bool, true, false, cond, List, [], ◌∷◌, length, Option, Some, None, refl, sym, ap, subst, arith, inl, inr}
-use Rattle.std.specs.Prelude.{◌⊎◌, ◌==◌, ◌||◌, nat_lt, slice_set}
-use Rattle.std.specs.List.{AllByRecursion as Each}
-use Rattle.std.proofs.lemmas.Bool.Decides.{eqb_tells}
-use Rattle.std.proofs.lemmas.Int.{ints}
-use Rattle.std.proofs.lemmas.List.{get_or-set_same, get_or-set_other}
+use Rattle.std.proofs.Common.{◌≡◌, ℕ, Some, None, refl, sym, subst}
 use Rattle.pc_language.specs.Ends.{end_of}
-use Rattle.pc_rows.specs.Laws.{at}
-use Rattle.pc_rows.specs.Linear.{Linear, State, value, MeetsAll, zero_from, in_range}
-use Rattle.pc_rows.specs.Readers.{terms_of, sum_over}
-use Rattle.pc_rows.specs.Substitution.{IsNotBelow, IsNotAbove}
-use Rattle.pc_rows.specs.declared.row.TheConstants.{VARIABLES}
-use Rattle.pc_rows.proofs.Only.{zero_from_at}
-use Rattle.pc_rows.proofs.Ring.{mul_comm, mul_neg}
+use Rattle.pc_rows.specs.Linear.{State, MeetsAll, zero_from}
 use Rattle.pc_flow.specs.declared.what.What.{What}
 use Rattle.pc_flow.specs.declared.what.What.TheVariants.{Enter, Test, Set, Check}
 use Rattle.pc_flow.specs.Carry.{HasVariable}
 use Rattle.pc_flow.specs.Walk.{Pass, Keeps}
-use Rattle.pc_box.specs.declared.form.Side.{Side}
-use Rattle.pc_box.specs.declared.form.Side.TheVariants.{Least, Greatest}
-use Rattle.pc_box.specs.declared.interval.Interval.{Interval}
-use Rattle.pc_box.specs.Intervals.{free, only_zero, Holds, is_within}
-use Rattle.pc_box.specs.Boxes.{Bounded, Box, interval_at, all_below, HasBounds, HasBox, IsNarrow, rows_of}
-use Rattle.pc_box.specs.Forms.{kept, plus_choice}
-use Rattle.pc_box.specs.Forward.{with_intervals}
-use Rattle.pc_box.specs.Backward.{distance, gap, signed, cut_form, asked, freed, before_set, may_be_zero, firsts, before_enter, before_of}
-use Rattle.pc_box.proofs.Claims.{put_tells, cut_tells, cut_terms_tells, claimed_rows_tell}
-use Rattle.pc_box.proofs.Ends.{in_within}
-use Rattle.pc_box.proofs.Steps.{before_stays, below_tells}
-use Rattle.pc_box.proofs.Sums.{IsInside}
-use Rattle.pc_box.proofs.Tables.{at_tabulated, tabulated_long, past_end, within_or_past, all_true}
+use Rattle.pc_box.specs.Boxes.{Box, HasBounds, HasBox, IsNarrow, rows_of}
+use Rattle.pc_box.specs.Backward.{before_of}
+use Rattle.pc_box.proofs.Claims.{claimed_rows_tell}
 use Rattle.pc_box.proofs.Telling.{box_rows_tell}
-use Rattle.pc_box.proofs.Walks.{value_is_walk, terms_are_some}
-
--- ---- assignments
-
--- there is an end of the choice, and the form with it keeps to the number that is wanted, if one is
-abbrev pub IsAsked : Side → Linear → Option ℤ → Option ℤ → State → Type 0
-IsAsked side form choice None s = Unit {0}
-IsAsked side form choice (Some n) s = (e : ℤ) × (choice ≡ Some e) × IsInside side (Some n) (value form s +ℤ e)
-
-kept_is : (z k : ℤ) → kept z ≡ Some k → k ≡ z
-kept_is z k = by (in_range z)
-  where
-    by : (b : Bool) → cond b (Some z) None ≡ Some k → k ≡ z
-    by true e = cc
-    by false e = absurd (cc)
-
-gap_tells : (side : Side) (c : ℤ) (choice : Option ℤ) (n k : ℤ) → gap side (plus_choice (Some c) choice) n ≡ Some k → (e : ℤ) × (choice ≡ Some e) × (k ≡ distance side (c +ℤ e) n)
-gap_tells side c None n k h = absurd (cc)
-gap_tells side c (Some e) n k h = by (kept (c +ℤ e)) refl h
-  where
-    by : (o : Option ℤ) → kept (c +ℤ e) ≡ o → gap side o n ≡ Some k → (m : ℤ) × (Some e ≡ Some m) × (k ≡ distance side (c +ℤ m) n)
-    by None is h = absurd (cc)
-    by (Some m) is h = (e, refl, kept_is (distance side m n) k h ∙ ap (λ (z : ℤ). distance side z n) (kept_is (c +ℤ e) m is))
-
-pub signed_some : (side : Side) (a : ℤ) → a ≢ pos 0 → signed side a ≢ pos 0
-signed_some Least a some = some
-signed_some Greatest a some = λ e. some (omega (arith, ints))
-
--- the term's part of the sum, as it counts on that side
-pub signed_part : (side : Side) (a x z k : ℤ) → signed side a *ℤ x +ℤ k ≡ k +ℤ signed side ((z +ℤ a *ℤ x) -ℤ z)
-signed_part Least a x z k = omega (arith, ints)
-signed_part Greatest a x z k = let e : neg_ℤ a *ℤ x ≡ neg_ℤ (a *ℤ x) = mul_comm (neg_ℤ a) x ∙ mul_neg x a ∙ ap neg_ℤ (mul_comm x a) in omega (arith, ints)
-
-pub signed_none : (side : Side) (z k : ℤ) → k ≡ k +ℤ signed side (z -ℤ z)
-signed_none Least z k = omega (arith, ints)
-signed_none Greatest z k = omega (arith, ints)
-
-module _ (s : State) where
-  cut_form_tells : (side : Side) (b : Box) (o : Option ℤ) (ts : List (ℕ × ℤ)) (z : ℤ) → Each (λ t. t.1 ≢ pos 0) ts → HasBox (cut_form side b o ts) s →
-      HasBox b s × ((k : ℤ) × (o ≡ Some k) × (pos 0 ≤ℤ (k +ℤ signed side (sum_over z ts s -ℤ z))))
-  cut_form_tells side None o ts z some h = absurd h
-  cut_form_tells side (Some b) None ts z some h = absurd h
-  cut_form_tells side (Some b) (Some c) [] z some h =
-      let told = cut_terms_tells s b c [] tt (omega arith) h in
-      (told.0, (c, refl, subst (λ (m : ℤ). pos 0 ≤ℤ m) (signed_none side z c) told.1))
-  cut_form_tells side (Some b) (Some c) (t ∷ []) z some h =
-      let told = cut_tells s b t.0 (signed side t.1) c (signed_some side t.1 some.0) h in
-      (told.0, (c, refl, subst (λ (m : ℤ). pos 0 ≤ℤ m) (signed_part side t.1 (at s t.0) z c) told.1))
-  cut_form_tells side (Some b) (Some c) (t ∷ u ∷ ts) z some h = absurd h
-
-  asked_tells : (side : Side) (b : Box) (form : Linear) (choice wanted : Option ℤ) → HasBox (asked side b form choice wanted) s → HasBox b s × IsAsked side form choice wanted s
-  asked_tells side b form choice None h = (h, tt)
-  asked_tells side b form choice (Some n) h =
-      let told = cut_form_tells side b (gap side (plus_choice (Some form.constant) choice) n) (terms_of form) form.constant (terms_are_some form) h in
-      let end = gap_tells side form.constant choice n told.1.0 told.1.1 in
-      (told.0, (end.0, end.1, inner side told.1.0 end.0 end.2 told.1.2))
-    where
-      inner : (z : Side) (k e : ℤ) → k ≡ distance z (form.constant +ℤ e) n → pos 0 ≤ℤ (k +ℤ signed z (sum_over form.constant (terms_of form) s -ℤ form.constant)) →
-          IsInside z (Some n) (value form s +ℤ e)
-      inner Least k e is h = let whole = value_is_walk form s in omega (arith, ints)
-      inner Greatest k e is h = let whole = value_is_walk form s in omega (arith, ints)
-
-  before_set_tells : (b : Bounded) (x : ℕ) (form : Linear) (lo hi : Option ℤ) (c : ℤ) → x < length s → IsNotBelow lo c → IsNotAbove hi c → HasBox (before_set b x form lo hi) s →
-      HasBounds b.intervals (slice_set s x (value form s +ℤ c))
-  before_set_tells b x form lo hi c lt low high h = λ v. by v (eqb_tells v x)
-    where
-      new : State
-      new = slice_set s x (value form s +ℤ c)
-
-      above : HasBox (asked Least (Some (freed b x)) form lo (interval_at b.intervals x).least) s × IsAsked Greatest form hi (interval_at b.intervals x).greatest s
-      above = asked_tells Greatest (asked Least (Some (freed b x)) form lo (interval_at b.intervals x).least) form hi (interval_at b.intervals x).greatest h
-
-      below : HasBox (Some (freed b x)) s × IsAsked Least form lo (interval_at b.intervals x).least s
-      below = asked_tells Least (Some (freed b x)) form lo (interval_at b.intervals x).least above.0
-
-      least : (m : Option ℤ) → IsAsked Least form lo m s → IsNotBelow m (value form s +ℤ c)
-      least None a = tt
-      least (Some n) a =
-          let far : a.0 ≤ℤ c = subst (λ (o : Option ℤ). IsNotBelow o c) a.1 low in
-          let near : n ≤ℤ (value form s +ℤ a.0) = a.2 in
-          omega (arith, ints)
-
-      greatest : (m : Option ℤ) → IsAsked Greatest form hi m s → IsNotAbove m (value form s +ℤ c)
-      greatest None a = tt
-      greatest (Some n) a =
-          let far : c ≤ℤ a.0 = subst (λ (o : Option ℤ). IsNotAbove o c) a.1 high in
-          let near : (value form s +ℤ a.0) ≤ℤ n = a.2 in
-          omega (arith, ints)
-
-      by : (v : ℕ) → (((v == x) ≡ true) × (v ≡ x)) ⊎ (((v == x) ≡ false) × (v ≢ x)) → Holds (interval_at b.intervals v) (at new v)
-      by v (inl e) =
-          subst (λ (n : ℕ). Holds (interval_at b.intervals n) (at new n)) (sym e.1)
-          (subst (Holds (interval_at b.intervals x)) (sym (get_or-set_same s x (value form s +ℤ c) (pos 0) lt))
-          (least (interval_at b.intervals x).least below.1, greatest (interval_at b.intervals x).greatest above.1))
-      by v (inr e) =
-          subst (Holds (interval_at b.intervals v)) (sym (get_or-set_other s x v (value form s +ℤ c) (pos 0) e.1))
-          ((put_tells b.intervals x free s below.0).1 v e.1)
-
--- ---- the entry
-
-pub firsts_at : (params : ℕ) (bs : List Interval) (v : ℕ) → v < params → v < length bs → interval_at (firsts params bs) v ≡ interval_at bs v
-firsts_at params bs v lt within = at_tabulated (interval_at bs) (min params (length bs)) v (omega arith)
-
-before_enter_tells : (params : ℕ) (b : Bounded) (s : State) → HasBox (before_enter params b) s → HasBounds b.intervals (zero_from params s)
-before_enter_tells params b s = by (all_below (may_be_zero params bs) (length bs)) refl
-  where
-    bs : List Interval
-    bs = b.intervals
-
-    zero_holds : Holds only_zero (pos 0)
-    zero_holds = (omega (arith, ints), omega (arith, ints))
-
-    at_place : all_below (may_be_zero params bs) (length bs) ≡ true → HasBounds (firsts params bs) s → (v : ℕ) → (v < length bs) ⊎ (length bs ≤ v) →
-        ((nat_lt v params ≡ true) × (v < params)) ⊎ ((nat_lt v params ≡ false) × (params ≤ v)) → Holds (interval_at bs v) (at (zero_from params s) v)
-    at_place e has v (inr past) tells = subst (λ (i : Interval). Holds i (at (zero_from params s) v)) (sym (past_end bs v past)) (tt, tt)
-    at_place e has v (inl lt) (inl first) =
-        subst (Holds (interval_at bs v)) (sym (before_stays params s v first.1)) (subst (λ (i : Interval). Holds i (at s v)) (firsts_at params bs v first.1 lt) (has v))
-    at_place e has v (inl lt) (inr local) =
-        let either : (nat_lt v params || is_within only_zero (interval_at bs v)) ≡ true = all_true (may_be_zero params bs) (length bs) v e lt in
-        let zero : is_within only_zero (interval_at bs v) ≡ true = subst (λ (t : Bool). (t || is_within only_zero (interval_at bs v)) ≡ true) local.0 either in
-        subst (Holds (interval_at bs v)) (sym (zero_from_at params s v local.1)) (in_within only_zero (interval_at bs v) (pos 0) zero zero_holds)
-
-    by : (t : Bool) → all_below (may_be_zero params bs) (length bs) ≡ t → HasBox (cond t (Some (with_intervals b (firsts params bs))) None) s → HasBounds bs (zero_from params s)
-    by true e h = λ v. at_place e h v (within_or_past (length bs) v) (below_tells v params)
-    by false e h = absurd h
-
--- ---- edges
+use Rattle.pc_box.proofs.Assigned.{before_set_tells}
+use Rattle.pc_box.proofs.Enters.{before_enter_tells, narrow_still}
 
 pub box_before : (w : What) (b : Box) (s : State) → HasVariable w s → HasBox (before_of w b) s → Keeps w s × ((t : State) → Pass w s t → HasBox b t)
 box_before w None s var h = absurd h
@@ -168,25 +22,6 @@ box_before (Check rows) (Some b) s var h =
     (told.1, λ t pass. subst (HasBounds b.intervals) (sym pass.1) told.0)
 box_before (Set x form lo hi) (Some b) s var h =
     (tt, λ t pass. subst (HasBounds b.intervals) (sym pass.3) (before_set_tells s b x form (end_of lo) (end_of hi) pass.0 var pass.1 pass.2 h))
-
--- ---- the rows of the entry
-
-firsts_narrow : (params : ℕ) (b : Bounded) → (params ≤ VARIABLES) ⊎ (length b.intervals ≤ VARIABLES) → IsNarrow (before_enter params b)
-firsts_narrow params b few = by (all_below (may_be_zero params b.intervals) (length b.intervals)) few
-  where
-    by : (t : Bool) → (params ≤ VARIABLES) ⊎ (length b.intervals ≤ VARIABLES) → IsNarrow (cond t (Some (with_intervals b (firsts params b.intervals))) None)
-    by true (inl few) = let long = tabulated_long (interval_at b.intervals) (min params (length b.intervals)) in omega arith
-    by true (inr few) = let long = tabulated_long (interval_at b.intervals) (min params (length b.intervals)) in omega arith
-    by false few = tt
-
--- the box at the entry has no more intervals than there are variables
-pub narrow_for : (params : ℕ) (b : Box) → params ≤ VARIABLES → IsNarrow (before_of (Enter params) b)
-narrow_for params None few = tt
-narrow_for params (Some b) few = firsts_narrow params b (inl few)
-
-narrow_still : (params : ℕ) (b : Box) → IsNarrow b → IsNarrow (before_of (Enter params) b)
-narrow_still params None few = tt
-narrow_still params (Some b) few = firsts_narrow params b (inr few)
 
 pub entry_tells : (params : ℕ) (b : Box) → IsNarrow b → (s : State) → zero_from params s ≡ s → MeetsAll s (rows_of (before_of (Enter params) b)) → HasBox b s
 entry_tells params b few s zeros met =

@@ -1,12 +1,11 @@
 -- Without tests and loops the boxes going back have exactly the states from which no walk comes to an assertion that does not hold.
-use Rattle.std.proofs.Common.{◌≡◌, ◌∙◌, ℕ, zero, suc, ◌+◌, ◌-◌, ◌*◌, ◌<◌, ◌≤◌, List, [], ◌∷◌, length, Option, Some, None, slice_get, refl, sym, ap, subst, arith, inl, inr, eq-eqb}
+use Rattle.std.proofs.Common.{◌≡◌, ◌∙◌, ℕ, zero, suc, ◌+◌, ◌-◌, ◌*◌, ◌<◌, ◌≤◌, List, [], ◌∷◌, length, Some, None, slice_get, refl, sym, ap, subst, arith, eq-eqb}
 use Rattle.std.specs.Prelude.{◌↔◌, ◌==◌, slice_index_or}
 use Rattle.std.specs.List.{AllByRecursion as Each}
 use Rattle.std.proofs.lemmas.Bool.{eqb-true}
 use Rattle.std.proofs.lemmas.Option.{slice_get-get_or}
 use Rattle.pc_rows.specs.Linear.{Linear, State, MeetsAll, zero_from}
 use Rattle.pc_rows.proofs.First.{zero_from_entry}
-use Rattle.pc_flow.specs.declared.what.What.{What}
 use Rattle.pc_flow.specs.declared.what.What.TheVariants.{Enter}
 use Rattle.pc_flow.specs.Arc.{Arc}
 use Rattle.pc_flow.specs.Flow.{Flow}
@@ -17,75 +16,28 @@ use Rattle.pc_flow.specs.Walk.{Walk, IsEntry, GraphSafe, entered}
 use Rattle.pc_flow.proofs.Carrying.{same_length}
 use Rattle.pc_flow.proofs.Closed.{closed_is_safe}
 use Rattle.pc_flow.proofs.Lists.{each_at}
-use Rattle.pc_domain.specs.Fold.{Brings, Folds, EbbsTo, IsBackFold}
+use Rattle.pc_domain.specs.Fold.{EbbsTo, IsBackFold}
 use Rattle.pc_domain.specs.View.{View}
 use Rattle.pc_domain.proofs.Entered.{entered_long, met_entered}
 use Rattle.pc_domain.proofs.Heads.{has_entry}
 use Rattle.pc_domain.proofs.Options.{some_is}
 use Rattle.pc_domain.proofs.Picking.{picked_in, in_picked}
 use Rattle.pc_box.specs.Boxes.{Box, HasBox, IsNarrow}
-use Rattle.pc_box.specs.Meeting.{both_of}
 use Rattle.pc_box.specs.Backward.{before_of, box_back_says}
 use Rattle.pc_box.specs.Views.{view_of, box_of, boundless}
 use Rattle.pc_box.specs.Exact.{small_bound, IsExactEdge, BoxesBackAreExact}
-use Rattle.pc_box.proofs.Backs.{box_before, narrow_for}
-use Rattle.pc_box.proofs.Intersecting.{both_exact}
+use Rattle.pc_box.proofs.Backs.{box_before}
 use Rattle.pc_box.proofs.Sharp.{before_keeps}
-use Rattle.pc_box.proofs.Small.{BoxIsSmall, box_more, both_small, before_small}
+use Rattle.pc_box.proofs.Small.{BoxIsSmall, box_more}
 use Rattle.pc_box.proofs.Telling.{box_rows_met, box_rows_tell}
 use Rattle.pc_box.proofs.Viewing.{box_view}
+use Rattle.pc_box.proofs.BackFolds.{box_at_point, folds_exact, folds_small}
+use Rattle.pc_box.proofs.Enters.{narrow_for}
+use Rattle.pc_box.proofs.Growing.{before_small}
 
 -- how far the bounds of a box grow over an edge
 abbrev growth : ℕ
 growth = small_bound + small_bound
-
-module _ (views : List View) where
-  -- the box of the view at a point
-  abbrev box_at_point : ℕ → Box
-  box_at_point p = box_of (slice_index_or views p None)
-
-  brings_box : (o : Option View) (e : What) (v w u : View) → o ≡ Some u → Brings box_back_says.before box_back_says.both o e v w → box_of w ≡ both_of (box_of v) (before_of e (box_of u))
-  brings_box None e v w u at h = absurd (cc)
-  brings_box (Some x) e v w u at h =
-      let same : x ≡ u = cc in
-      let before : box_of h.0 ≡ before_of e (box_of x) = ap box_of h.1 ∙ box_view (before_of e (box_of x)) in
-      ap box_of h.2 ∙ box_view (both_of (box_of v) (box_of h.0)) ∙ ap (both_of (box_of v)) (before ∙ ap (λ (z : View). before_of e (box_of z)) same)
-
-  abbrev FoldsTo : List Arc → View → View → Type 0
-  FoldsTo edges v w = Folds box_back_says.before box_back_says.both (λ e. e.to) views edges v w
-
-  one_edge : (e : Arc) (v w : View) → e.to < length views → Brings box_back_says.before box_back_says.both (slice_get views e.to) e.what v w →
-      box_of w ≡ both_of (box_of v) (before_of e.what (box_at_point e.to))
-  one_edge e v w lt h = brings_box (slice_get views e.to) e.what v w (slice_index_or views e.to None) (slice_get-get_or views e.to None lt) h
-
-  folds_exact : (edges : List Arc) (v w : View) → ((e : Arc) → In e edges → e.to < length views) → FoldsTo edges v w → (s : State) →
-      HasBox (box_of w) s ↔ (HasBox (box_of v) s × ((e : Arc) → In e edges → HasBox (before_of e.what (box_at_point e.to)) s))
-  folds_exact [] v w within h s = (
-    (λ has. (subst (λ (z : View). HasBox (box_of z) s) h has, λ e m. absurd m)),
-    (λ k. subst (λ (z : View). HasBox (box_of z) s) (sym h) k.0),
-  )
-  folds_exact (e ∷ edges) v w within h s =
-      let one = one_edge e v h.0 (within e (inl refl)) h.1 in
-      let rest = folds_exact edges h.0 w (λ f m. within f (inr m)) h.2 s in
-      let both = both_exact (box_of v) (before_of e.what (box_at_point e.to)) s in (
-        (λ has.
-        let r = rest.0 has in
-        let b = both.0 (subst (λ (z : Box). HasBox z s) one r.0) in
-        (b.0, λ f m. either f m b.1 r.1)),
-        (λ k. rest.1 (subst (λ (z : Box). HasBox z s) (sym one) (both.1 (k.0, k.1 e (inl refl))), λ f m. k.1 f (inr m))),
-      )
-    where
-      either : (f : Arc) → In f (e ∷ edges) → HasBox (before_of e.what (box_at_point e.to)) s → ((g : Arc) → In g edges → HasBox (before_of g.what (box_at_point g.to)) s) →
-          HasBox (before_of f.what (box_at_point f.to)) s
-      either f (inl is) here more = subst (λ (z : Arc). HasBox (before_of z.what (box_at_point z.to)) s) (sym is) here
-      either f (inr m) here more = more f m
-
-  folds_small : (k : ℕ) (edges : List Arc) (v w : View) → ((e : Arc) → In e edges → e.to < length views) → FoldsTo edges v w → BoxIsSmall k (box_of v) →
-      ((e : Arc) → In e edges → BoxIsSmall k (before_of e.what (box_at_point e.to))) → BoxIsSmall k (box_of w)
-  folds_small k [] v w within h small all = subst (λ (z : View). BoxIsSmall k (box_of z)) (sym h) small
-  folds_small k (e ∷ edges) v w within h small all =
-      folds_small k edges h.0 w (λ f m. within f (inr m)) h.2
-      (subst (BoxIsSmall k) (sym (one_edge e v h.0 (within e (inl refl)) h.1)) (both_small k (box_of v) (before_of e.what (box_at_point e.to)) small (all e (inl refl)))) (λ f m. all f (inr m))
 
 module _ (g : Flow) (views : List View) (graph : IsGraph g) (exact : Each (IsExactEdge g) g.edges) (fold : IsBackFold box_back_says g views) where
   edge_at : (e : Arc) → In e g.edges → IsExactEdge g e
@@ -166,14 +118,14 @@ module _ (g : Flow) (views : List View) (graph : IsGraph g) (exact : Each (IsExa
   rows_exact : (rows : List Linear) → box_back_says.rows (slice_index_or views 0 None) g.params rows → (s : State) → IsEntry g s → MeetsAll s rows ↔ GraphSafe g s
   rows_exact rows told s entry = (
     (λ met.
-    let inside = box_rows_tell before narrow start (subst (MeetsAll start) told ((met_entered g rows s).0 met)) in
-    has_safe s entry (subst (HasBox first) zeros ((box_before (Enter g.params) first start tt inside).1 (zero_from g.params start) refl))),
+        let inside = box_rows_tell before narrow start (subst (MeetsAll start) told ((met_entered g rows s).0 met)) in
+        has_safe s entry (subst (HasBox first) zeros ((box_before (Enter g.params) first start tt inside).1 (zero_from g.params start) refl))),
     (λ safe.
-    let some = has_entry g graph in
-    let has = safe_has s safe (length g.points) 0 start [] (omega arith) (omega arith) some (refl, refl) (entered_long g s graph.parameters entry) in
-    let inside = before_keeps (Enter g.params) first start (length g.points * growth) tt (let few = graph.parameters in let most = graph.variables in omega arith) tt tt tt
+        let some = has_entry g graph in
+        let has = safe_has s safe (length g.points) 0 start [] (omega arith) (omega arith) some (refl, refl) (entered_long g s graph.parameters entry) in
+        let inside = before_keeps (Enter g.params) first start (length g.points * growth) tt (let few = graph.parameters in let most = graph.variables in omega arith) tt tt tt
         (small_at (length g.points) 0 some (omega arith)) (let points = graph.points in let edges = graph.edges in omega arith) tt (λ t pass. subst (HasBox first) (sym (pass ∙ zeros)) has) in
-    (met_entered g rows s).1 (subst (MeetsAll start) (sym told) (box_rows_met before narrow start inside))),
+        (met_entered g rows s).1 (subst (MeetsAll start) (sym told) (box_rows_met before narrow start inside))),
   )
     where
       first : Box

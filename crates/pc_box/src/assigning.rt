@@ -34,8 +34,22 @@ pub(crate) fn before_set(
 {
     let wanted = bounds.at(x);
     let freed = bounds.with(alloc, x, &Interval::free())?;
-    let left = asked(alloc, Side::Least, Some(freed), form, end_of(lo), wanted.least)?;
-    asked(alloc, Side::Greatest, left, form, end_of(hi), wanted.greatest)
+    let left = asked(
+        alloc,
+        Side::Least,
+        Some(freed),
+        form,
+        end_of(lo),
+        wanted.least,
+    )?;
+    asked(
+        alloc,
+        Side::Greatest,
+        left,
+        form,
+        end_of(hi),
+        wanted.greatest,
+    )
 }
 
 /// The box in which the form, with the choice at its end on that side, keeps to the number that is wanted, if one is.

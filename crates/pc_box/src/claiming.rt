@@ -42,7 +42,11 @@ fn claimed_row(alloc: Global, bounds: Bounds, r: &Row) -> Result<Option<Bounds>,
     match r.terms() {
         0 => cut_row(alloc, bounds, r),
         1 => cut_row(alloc, bounds, r),
-        _ => Ok(if is_implied(&bounds, r) { Some(bounds) } else { None }),
+        _ => Ok(if is_implied(&bounds, r) {
+            Some(bounds)
+        } else {
+            None
+        }),
     }
 }
 

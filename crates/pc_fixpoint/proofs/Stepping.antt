@@ -40,7 +40,7 @@ module _ {V : Type 0} (d : Ghosts V) (g : Flow) where
     h.0,
     h.1,
     folds_alike (Before d) (Both d) (λ e. e.to) xs ys (leaving p g.edges) h.0 v
-    (λ e m. let picked = picked_in (λ (x : Arc). x.from == p) e g.edges m in same e picked.0 (eqb-true e.from p picked.1)) h.2,
+        (λ e m. let picked = picked_in (λ (x : Arc). x.from == p) e g.edges m in same e picked.0 (eqb-true e.from p picked.1)) h.2,
   )
 
   point_alike : (xs ys : List V) (p : ℕ) → slice_get xs p ≡ slice_get ys p → ((e : Arc) → In e g.edges → e.from ≡ p → slice_get xs e.to ≡ slice_get ys e.to) →
