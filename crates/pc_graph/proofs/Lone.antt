@@ -126,23 +126,23 @@ split_alone place t p n a b up made last last2 in_a in_b f h =
     let In2 = λ (e : Arc). Within a.next (a.next + 1) b.next b.last e.from in
     let later2 = each_join (IfCheck (λ e. p < e.from)) b.edges ends (later p a.next b (omega arith) in_b) (no_ends a.last b.last b.next (λ e. p < e.from)) in
     let second = joined_alone b.edges ends
-        (each_more In2 (IfCheck (NoneWith ends)) (λ e w check. let low = least a.next e.from w.low in ((λ same. omega arith), ((λ same. w.other (sym same)), tt))) b.edges in_b)
-        (no_ends a.last b.last b.next (NoneWith b.edges)) h (no_ends a.last b.last b.next (OnlyOne ends)) in
+    (each_more In2 (IfCheck (NoneWith ends)) (λ e w check. let low = least a.next e.from w.low in ((λ same. omega arith), ((λ same. w.other (sym same)), tt))) b.edges in_b)
+    (no_ends a.last b.last b.next (NoneWith b.edges)) h (no_ends a.last b.last b.next (OnlyOne ends)) in
     let rest = behind_tests false p a.next (ways t false) (b.edges ++ ends) later2 second in
     let both = joined_alone a.edges (falses ++ (b.edges ++ ends))
-        (each_more In1 (IfCheck (NoneWith (falses ++ (b.edges ++ ends))))
-        (λ e w check.
-        let low = least n e.from w.low in
-        let high = w.high in
-        each_join (λ x. x.from ≢ e.from) falses (b.edges ++ ends) (tests_apart false p a.next (ways t false) e (omega arith))
-        (each_join (λ x. x.from ≢ e.from) b.edges ends (each_more In2 (λ x. x.from ≢ e.from) (λ x v. let low2 = least a.next x.from v.low in λ same. omega arith) b.edges in_b)
-        ((λ same. w.other (sym same)), ((λ same. omega arith), tt)))) a.edges in_a)
-        (each_join (IfCheck (NoneWith a.edges)) falses (b.edges ++ ends) (tests_free (NoneWith a.edges) false p a.next (ways t false))
-        (each_join (IfCheck (NoneWith a.edges)) b.edges ends
-        (each_more In2 (IfCheck (NoneWith a.edges))
-        (λ e w check. each_more In1 (λ x. x.from ≢ e.from) (λ x v. let low = least a.next e.from w.low in let high = v.high in λ same. omega arith) a.edges in_a) b.edges in_b)
-        (no_ends a.last b.last b.next (NoneWith a.edges))))
-        f rest in
+    (each_more In1 (IfCheck (NoneWith (falses ++ (b.edges ++ ends))))
+    (λ e w check.
+    let low = least n e.from w.low in
+    let high = w.high in
+    each_join (λ x. x.from ≢ e.from) falses (b.edges ++ ends) (tests_apart false p a.next (ways t false) e (omega arith))
+    (each_join (λ x. x.from ≢ e.from) b.edges ends (each_more In2 (λ x. x.from ≢ e.from) (λ x v. let low2 = least a.next x.from v.low in λ same. omega arith) b.edges in_b)
+    ((λ same. w.other (sym same)), ((λ same. omega arith), tt)))) a.edges in_a)
+    (each_join (IfCheck (NoneWith a.edges)) falses (b.edges ++ ends) (tests_free (NoneWith a.edges) false p a.next (ways t false))
+    (each_join (IfCheck (NoneWith a.edges)) b.edges ends
+    (each_more In2 (IfCheck (NoneWith a.edges))
+    (λ e w check. each_more In1 (λ x. x.from ≢ e.from) (λ x v. let low = least a.next e.from w.low in let high = v.high in λ same. omega arith) a.edges in_a) b.edges in_b)
+    (no_ends a.last b.last b.next (NoneWith a.edges))))
+    f rest in
     behind_tests false p n (ways t true) (a.edges ++ (falses ++ (b.edges ++ ends)))
     (each_join (IfCheck (λ e. p < e.from)) a.edges (falses ++ (b.edges ++ ends)) (later p n a up in_a)
     (each_join (IfCheck (λ e. p < e.from)) falses (b.edges ++ ends) (tests_free (λ e. p < e.from) false p a.next (ways t false)) later2)) both
@@ -155,9 +155,9 @@ loop_alone place t tried p n a up in_a f =
     let falses = tests false p a.next (ways t false) in
     let back = arc a.last p (Test []) in
     let body = joined_alone a.edges (back ∷ falses)
-        (each_more (λ e. Within n (n + 1) a.next a.last e.from) (IfCheck (NoneWith (back ∷ falses)))
-        (λ e w check. let low = least n e.from w.low in ((λ same. w.other (sym same)), tests_apart false p a.next (ways t false) e (omega arith))) a.edges in_a)
-        (free (NoneWith a.edges)) f (free (OnlyOne (back ∷ falses))) in
+    (each_more (λ e. Within n (n + 1) a.next a.last e.from) (IfCheck (NoneWith (back ∷ falses)))
+    (λ e w check. let low = least n e.from w.low in ((λ same. w.other (sym same)), tests_apart false p a.next (ways t false) e (omega arith))) a.edges in_a)
+    (free (NoneWith a.edges)) f (free (OnlyOne (back ∷ falses))) in
     behind_tests true p n (ways t true) (a.edges ++ (back ∷ falses))
     (each_join (IfCheck (λ e. p < e.from)) a.edges (back ∷ falses) (later p n a up in_a) (free (λ e. p < e.from))) body
   where

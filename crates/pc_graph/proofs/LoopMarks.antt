@@ -1,6 +1,5 @@
 -- The loop of a statement that repeats a block, and the loops in the block.
-use Rattle.std.proofs.Common.{◌≡◌, ◌≢◌, ℕ, ◌+◌, ◌<◌, ◌≤◌, List, [], ◌∷◌, ◌++◌, length, true, false, refl, sym, arith, map, inl, inr, length-append}
-use Rattle.std.specs.Prelude.{◌⊎◌}
+use Rattle.std.proofs.Common.{◌≡◌, ◌≢◌, ℕ, ◌+◌, ◌<◌, ◌≤◌, List, [], ◌∷◌, ◌++◌, true, false, refl, sym, arith, map, inl, inr, length-append}
 use Rattle.std.specs.List.{AllByRecursion as Each}
 use Rattle.pc_text.specs.declared.place.Place.{Place}
 use Rattle.pc_rows.specs.Linear.{Linear}
@@ -21,7 +20,7 @@ use Rattle.pc_graph.specs.Ways.{ways}
 use Rattle.pc_graph.proofs.Pieces.{holds_left, holds_right}
 use Rattle.pc_graph.proofs.Within.{Within, least, tests_from}
 use Rattle.pc_graph.proofs.Lone.{loop_alone}
-use Rattle.pc_graph.proofs.Marked.{IfBody, Begins, LoopIn, MarksBy, tests_unmarked, later_begins, loops_before, loops_behind}
+use Rattle.pc_graph.proofs.Marked.{IfBody, Begins, MarksBy, tests_unmarked, later_begins, loops_before, loops_behind}
 
 module _ (ρ : ℕ → List Stmt) (place : Place) (t : Condition) (tried : List Compare) (xs : List Stmt) (all_x : MarksBy ρ (rules xs) (rests_of xs) (λ k. xs ++ k)) where
   pub loop_marks : MarksBy ρ (rule_step (stmt.While place t tried (map rule xs)))
