@@ -9,6 +9,7 @@
 #![tactic(auto)]
 
 mod choice;
+mod difference;
 mod divisor;
 mod found;
 mod guess;

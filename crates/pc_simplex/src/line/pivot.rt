@@ -1,14 +1,13 @@
 //! What a pivot makes of the lines of a table.
 
-ghost use Rattle.std.specs.Prelude.{◌≡◌, ◌≢◌, ◌<◌, ◌≤ℤ◌, ◌*ℤ◌, ◌-ℤ◌, ◌≤◌, pos, true, OkIff, IfSome, length, drop};
-ghost use Rattle.pc_rows.specs.Linear.{InRange};
+ghost use Rattle.std.specs.Prelude.{◌≡◌, ◌≢◌, ◌<◌, ◌≤ℤ◌, ◌≤◌, pos, true, OkIff, length, drop};
 ghost use Rattle.pc_simplex.specs.Values.{AreZero};
 ghost use Rattle.pc_simplex.specs.Pivoting.{entry, is_up, signed, cell, cell_fits, number_after, number_fits, numbers_after, numbers_fit, other_after, other_fits, own_after, own_number, own_numbers, line_after, line_fits, ChangeIs};
 
 use super::{Line, greater};
+use crate::difference::difference;
 use crate::divisor::Divisor;
 use crate::label::Label;
-use crate::word::Word;
 use pc_rows::{Number, Past, VARIABLES};
 use std::marker::Model;
 
@@ -173,29 +172,6 @@ impl Pivot {
         let difference = difference(self.entry, x, factor, y)?;
         Ok(signed(self.up, self.divisor.divide(difference)?))
     }
-}
-
-/// The difference of two products. Most numbers are words, and then nothing is to be tested.
-fn difference(a: Number, x: Number, b: Number, y: Number) -> Result<Number, Past>
-    ensures { OkIff result (InRange (a *ℤ x) × InRange (b *ℤ y) × InRange (a *ℤ x -ℤ b *ℤ y)) (a *ℤ x -ℤ b *ℤ y) }
-{
-    match (Word::of(a), Word::of(x), Word::of(b), Word::of(y)) {
-        (Some(a), Some(x), Some(b), Some(y)) => Ok(word_difference(a, x, b, y)),
-        _ => wide_difference(a, x, b, y),
-    }
-}
-
-fn word_difference(a: Word, x: Word, b: Word, y: Word) -> Number
-    ensures value { result ≡ a *ℤ x -ℤ b *ℤ y }
-    ensures range { InRange (a *ℤ x) × InRange (b *ℤ y) × InRange (a *ℤ x -ℤ b *ℤ y) }
-{
-    Number::new(a.times(x) - b.times(y))
-}
-
-fn wide_difference(a: Number, x: Number, b: Number, y: Number) -> Result<Number, Past>
-    ensures { OkIff result (InRange (a *ℤ x) × InRange (b *ℤ y) × InRange (a *ℤ x -ℤ b *ℤ y)) (a *ℤ x -ℤ b *ℤ y) }
-{
-    a.times(x)?.minus(b.times(y)?)
 }
 
 fn signed(up: bool, n: Number) -> Number
