@@ -1,5 +1,5 @@
 -- Without loops and with tame numbers the fold of views is what the points need.
-use Rattle.std.proofs.Common.{◌≡◌, ◌∙◌, ℕ, zero, suc, ◌+◌, ◌<◌, ◌≤◌, List, [], ◌∷◌, ◌++◌, length, map, sym, refl, ap, subst, cond, Bool, Some, None, Option, slice_get, arith, inl, inr}
+use Rattle.std.proofs.Common.{◌≡◌, ◌∙◌, ℕ, zero, suc, ◌+◌, ◌<◌, ◌≤◌, List, [], ◌∷◌, length, map, sym, refl, ap, subst, cond, Bool, Some, None, Option, slice_get, arith, inl, inr}
 use Rattle.std.specs.Prelude.{◌⊎◌, ◌==◌, SomeIff, not}
 use Rattle.std.specs.List.{AllByRecursion as Each}
 use Rattle.std.specs.Option.{option_map}
@@ -7,14 +7,13 @@ use Rattle.std.proofs.lemmas.Bool.{eqb-true}
 use Rattle.std.proofs.lemmas.List.{length-map}
 use Rattle.std.proofs.lemmas.List.Sums.{length-filter, count_by-le-length}
 use Rattle.std.proofs.lemmas.Option.{slice_get-map, slice_get-get_or, slice_get_within}
-use Rattle.pc_rows.specs.Linear.{Linear, State, MeetsAll, zero_from}
+use Rattle.pc_rows.specs.Linear.{Linear}
 use Rattle.pc_rows.specs.Joins.{is_covered, joined}
 use Rattle.pc_rows.specs.declared.rows.TheConstants.{ROWS}
 use Rattle.pc_rows.proofs.Counting.{count_most}
 use Rattle.pc_rows.proofs.Joining.{each_join, each_left, each_right}
 use Rattle.pc_flow.specs.declared.what.What.{What}
 use Rattle.pc_flow.specs.declared.what.What.TheVariants.{Enter, Test, Set, Check}
-use Rattle.pc_flow.specs.Annotation.{rows_at}
 use Rattle.pc_flow.specs.Arc.{Arc}
 use Rattle.pc_flow.specs.Carry.{owes}
 use Rattle.pc_flow.specs.Exact.{PointRows}
@@ -30,9 +29,9 @@ use Rattle.pc_domain.proofs.Heads.{leads_of, always_rises}
 use Rattle.pc_domain.proofs.Options.{some_is}
 use Rattle.pc_domain.proofs.Picking.{picked_in}
 use Rattle.pc_domain.proofs.Places.{same_items}
-use Rattle.pc_lower.specs.Annotation.{is_head, no_rows}
+use Rattle.pc_lower.specs.Annotation.{no_rows}
 use Rattle.pc_lower.specs.Need.{demanded, gathered, need}
-use Rattle.pc_lower.specs.Operations.{Operation, Joins, Fits, carries, edge_operations, edges_operations, point_operations, operations_below}
+use Rattle.pc_lower.specs.Operations.{Joins, Fits, carries, edge_operations, edges_operations, point_operations, operations_below}
 use Rattle.pc_lower.specs.Tame.{AreTame, IsTame}
 use Rattle.pc_lower.proofs.Meaning.{need_is, need_long}
 use Rattle.pc_lower.proofs.Paying.{no_head}
@@ -141,7 +140,7 @@ module _ (g : Flow) (graph : IsGraph g) (none : NoHeads g.points) (alone : Check
     at_from (suc n) p lt le =
         let e = some_is (slice_get views p) (EbbsTo need_says g views p) (fold.points p lt) in
         let folded = folds_need views (needed g) (leaving p g.edges) [] e.2.0 e.0 (λ x m. above (at_from n) x m) (point_fits p lt)
-            (each_of_members (HasRoom (needed g)) (leaving p g.edges) (room_at p lt)) e.2.1 e.2.2 in
+        (each_of_members (HasRoom (needed g)) (leaving p g.edges) (room_at p lt)) e.2.1 e.2.2 in
         e.1 ∙ ap (λ (z : View). Some z) (folded ∙ ap view_of_rows (sym ((need_is g graph.leads (no_rows g.points)).needed p (no_head g.points p none))))
       where
         above : ((q : ℕ) → q < length g.points → length g.points ≤ q + n → At views (needed g) q) → (x : Arc) → In x (leaving p g.edges) → At views (needed g) x.to

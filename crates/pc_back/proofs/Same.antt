@@ -1,5 +1,5 @@
 -- Lists and rows that are the same.
-use Rattle.std.proofs.Common.{◌≡◌, ◌∙◌, ℕ, ◌+◌, List, [], ◌∷◌, ◌++◌, length, drop, map, sym, refl, ap, subst, Bool, true, Some, slice_get, arith, append_assoc, ℤ}
+use Rattle.std.proofs.Common.{◌≡◌, ◌∙◌, ℕ, ◌+◌, List, [], ◌∷◌, ◌++◌, length, drop, map, sym, refl, ap, subst, true, Some, slice_get, arith, append_assoc, ℤ}
 use Rattle.std.specs.Prelude.{◌↔◌, int_le}
 use Rattle.std.specs.Ordering.{int_eq}
 use Rattle.std.specs.Int.Signed.{≤ℤ_refl}

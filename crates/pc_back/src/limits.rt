@@ -4,4 +4,5 @@ use pc_lower::JOINING_ROUNDS;
 pub const LAST_ROUND: u32 = 8;
 
 const _: () = prove!(LAST_ROUND == 8);
+
 const _: () = prove!(LAST_ROUND == JOINING_ROUNDS);

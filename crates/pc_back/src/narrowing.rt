@@ -47,12 +47,7 @@ fn are_shown(alloc: Global, old: &Rows, newer: &Need) -> Result<bool, NoMemory>
 
 /// Rows whose states are in both values, or None: from round `LAST_ROUND` on always, and before it where there are no newer
 /// rows.
-fn below(
-    alloc: Global,
-    old: &Rows,
-    newer: &Need,
-    round: u32,
-) -> Result<Option<Rows>, NoMemory>
+fn below(alloc: Global, old: &Rows, newer: &Need, round: u32) -> Result<Option<Rows>, NoMemory>
     ensures states { IfOk result (λ v. (s : State) → HasNeed v s → MeetsAll s old.now × HasNeed newer.now s) }
     ensures last { LAST_ROUND ≤ round → IfOk result (λ v. v ≡ None) }
 {
@@ -63,12 +58,7 @@ fn below(
 }
 
 /// What the lower widening gives in a round, where the row -1 alone stands for None.
-fn joined(
-    alloc: Global,
-    old: &Rows,
-    newer: &Rows,
-    round: u32,
-) -> Result<Option<Rows>, NoMemory>
+fn joined(alloc: Global, old: &Rows, newer: &Rows, round: u32) -> Result<Option<Rows>, NoMemory>
     ensures { IfOk result (λ v. (s : State) → HasNeed v s → MeetsAll s old.now × MeetsAll s newer.now) }
 {
     match narrow(alloc, old, newer, round) {

@@ -1,4 +1,3 @@
-use Rattle.std.proofs.Common.{◌≡◌}
 use Rattle.std.proofs.lemmas.Result.{IfOk-weaker}
 use Rattle.pc_rows.specs.Linear.{State}
 use Rattle.pc_flow.specs.Carry.{HasVariable}
