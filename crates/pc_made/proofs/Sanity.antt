@@ -15,8 +15,9 @@ use Rattle.pc_program.specs.Forms.{variable, form_step, form_of, ok_or, rows_of,
 use Rattle.pc_program.specs.Sane.{sane_expr, sane_test, sane_step, sane_stmt, sane_stmts, edges, edges_of, is_sane}
 use Rattle.pc_program.proofs.Folds.{fold-num, fold-name, fold-add, fold-set, fold-while, fold-assert}
 use Rattle.pc_program.proofs.Results.{and_of, at_most}
+use Rattle.pc_readback.specs.Bare.{nowhere}
 use Rattle.pc_gen.specs.declared.made.TheConstants.{LOOPS}
-use Rattle.pc_made.specs.Trees.{nowhere, names, parameter, counter, number, sum as sum_of, compared, below_ten, set_counter, bounded, counting, loop, loops}
+use Rattle.pc_made.specs.Trees.{names, parameter, counter, number, sum as sum_of, compared, below_ten, set_counter, bounded, counting, loop, loops}
 use Rattle.pc_made.proofs.Lists.{each_and}
 
 -- ---- the row of the K-th assertion
