@@ -4,3 +4,4 @@ pub mod Adding
 pub mod SimpleCommand
 pub mod Plainness
 mod Examples
+pub mod SpellingLemmas

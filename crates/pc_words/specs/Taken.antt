@@ -18,3 +18,7 @@ pub record IsTakenAs (words list : List Bytes) : Type 0 where
 -- the words order this: in its plain form, or, where they are in none, as `clap` takes them
 abbrev pub Orders : List Bytes → Order → Type 0
 Orders words order = IsOrder words order ⊎ ((IsPlain words → ⊥) × IsTaken words order)
+
+-- words order one thing
+abbrev pub WordsOrderOneThing : Type 0
+WordsOrderOneThing = (words : List Bytes) (a b : Order) → Orders words a → Orders words b → b ≡ a
