@@ -39,7 +39,6 @@ pub fn make(alloc: Global, loops: u32) -> Result<Text, NoMemory>
 
 /// Adds so many loops.
 fn push_loops(text: &mut Text, loops: u32) -> Result<(), NoMemory>
-    requires { IsLoops loops }
     ensures { OnOk result (text.new ≡ text.old ++ loops_text loops) }
 {
     let mut done = 0;

@@ -9,7 +9,7 @@ use Rattle.pc_words.specs.declared.domains.FactsDomain.TheVariants as facts
 use Rattle.pc_words.specs.declared.domains.QuickDomain.{QuickDomain}
 use Rattle.pc_words.specs.declared.domains.QuickDomain.TheVariants as quick
 use Rattle.pc_words.specs.Words.{Order, Infer, Certify, Replay, Run, Facts, Quick, Show, Trial, words_of, IsOrder}
-use Rattle.pc_words.specs.Taken.{Orders, WordsOrderOneThing}
+use Rattle.pc_words.specs.Taken.{WordsOrderOneThing}
 
 -- what words order that are those of some order
 of_two : Bytes → Bytes → Order
@@ -40,6 +40,7 @@ read_back (verb ∷ source ∷ third ∷ []) = Some (of_three verb source third)
 read_back (verb ∷ source ∷ third ∷ fourth ∷ more) = None
 
 reads_back : (order : Order) → read_back (words_of order) ≡ Some order
+unfolding read_back of_two of_three facts_domain quick_domain
 reads_back (Infer source) = refl
 reads_back (Certify source) = refl
 reads_back (Replay source certificate) = refl
