@@ -12,7 +12,7 @@ use Rattle.pc_runner.specs.declared.verdict.Verdict.TheVariants as verdict
 use Rattle.pc_app.specs.declared.status.TheConstants.{DONE, USAGE, REFUSED, MALFORMED, TOO_LONG, FAILED, PAST}
 use Rattle.pc_app.specs.Rulings.{ruling_status}
 use Rattle.pc_app.specs.Verdicts.{verdict_status}
-use Rattle.pc_words.specs.Words.{Order, Infer, Certify, Replay, Run, Facts, Quick, Show, Trial, Inputs, NoFile, Source, WithCertificate, WithScript, inputs_of}
+use Rattle.pc_words.specs.Words.{Order, Infer, Certify, Replay, Run, Facts, Quick, Show, Trial, Inputs, Made, Source, WithCertificate, WithScript, inputs_of}
 use Rattle.pc_words.specs.Taken.{AreCommand, Orders}
 use Rattle.pc_app.specs.Files.{Kind, MayHold, MayMean, OnFile}
 use Rattle.pc_app.specs.Files.OnFile.{IsRefused, IsRead}
@@ -21,7 +21,7 @@ use Rattle.pc_app.specs.Answers.{Answers, Given, Says, OnCertificate, OnScript, 
 use Rattle.pc_app.specs.Answers.Answers.{Unknown, Known}
 use Rattle.pc_app.specs.Causes.{IsRuling, IsVerdict, IsEnd}
 use Rattle.pc_app.specs.Promises.{OfBytes, IsAnswered}
-use Rattle.pc_words.proofs.Spelling.{same_order}
+use Rattle.pc_words.proofs.SpellingLemmas.{one_thing}
 
 -- ---- the statuses with which an order is answered
 
@@ -75,7 +75,7 @@ module _ (status : ℕ) (text : Bytes) where
   AllEnd inputs A = (given : Given inputs) → A given status text → IsEnd inputs status
 
   inputs_usual : (held : Bytes → Holding) (inputs : Inputs) (A : Given inputs → ℕ → Bytes → Type 0) → AllEnd inputs A → OnInputs held inputs A status text → Usual status
-  inputs_usual held NoFile A ends a = usual status (inl (ends tt a))
+  inputs_usual held (Made loops) A ends a = usual status (inl (ends tt a))
   inputs_usual held (Source source) A ends a = source_usual A (held source) (λ p b. usual status (inl (ends p b))) a
   inputs_usual held (WithCertificate source certificate) A ends a =
       source_usual (OnCertificate (held certificate) A) (held source) (λ p b. file_usual certificate_kind (λ c. A (p, c)) (held certificate) (inr refl) (λ c r. ruling_usual (ends (p, c) r)) b) a
@@ -128,7 +128,7 @@ module _ (words : List Bytes) (held : Bytes → Holding) (status : ℕ) (text : 
   -- words that are an order are answered as the order
   pub order_answers : (order : Order) → Orders words order → Answers words held status text → OrderAnswers held order status text
   order_answers order is (Unknown none s) = absurd (none (order, is))
-  order_answers order is (Known other that a) = subst (λ (o : Order). OrderAnswers held o status text) (same_order words order other is that) a
+  order_answers order is (Known other that a) = subst (λ (o : Order). OrderAnswers held o status text) (one_thing words order other is that) a
 
   pub answers_is_answered : Answers words held status text → IsAnswered status
   answers_is_answered (Unknown none s) = (omega arith, omega arith, omega arith)

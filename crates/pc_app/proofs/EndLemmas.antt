@@ -6,7 +6,7 @@ use Rattle.pc_program.specs.declared.program.Program.{Program}
 use Rattle.pc_app.specs.declared.status.TheConstants.{DONE, USAGE, REFUSED, MALFORMED, STORE_FAILED, SINK_FAILED, NO_MEMORY, TOO_LONG}
 use Rattle.pc_words.specs.declared.domains.FactsDomain.{FactsDomain}
 use Rattle.pc_words.specs.declared.domains.QuickDomain.{QuickDomain}
-use Rattle.pc_words.specs.Words.{Order, Infer, Certify, Replay, Run, Facts, Quick, Show, Trial, Inputs, NoFile, Source, WithCertificate, WithScript, inputs_of, names_of, files_of}
+use Rattle.pc_words.specs.Words.{Order, Infer, Certify, Replay, Run, Facts, Quick, Show, Trial, Inputs, Made, Source, WithCertificate, WithScript, inputs_of, names_of, files_of}
 use Rattle.pc_words.specs.Taken.{AreCommand, Orders, IsInfer, IsCertify, IsReplay, IsRun, IsFacts, IsQuick, IsShow, IsTrial}
 use Rattle.pc_app.specs.Files.{OnFile}
 use Rattle.pc_app.specs.Kinds.{source_kind}
@@ -15,7 +15,7 @@ use Rattle.pc_app.specs.Silences.{IsLost, IsLostBehind, AreLost, OrderIsLost, La
 use Rattle.pc_app.specs.Causes.{IsRuling, IsVerdict, OrderIsTooLong, OrderIsRefused, OrderIsMalformed, OrderIsMeant, IsOutcome}
 use Rattle.pc_app.specs.Promises.{OfBytes, PrintedSuffices, PrintedIsExact, PrintedCovers, PrintedCertificate, PrintedRuling, PrintedAccepted, PrintedVerdict, PrintedProgram, PrintedFacts, PrintedEnough, PrintedTrial, AreTold, AreThere, IsAnswered, IsOnlyStatus, HasAnswered, IsCutOff, Ends}
 use Rattle.pc_app.specs.Promises.Ends.{Answered, Unread, CutOff, Starved}
-use Rattle.pc_words.proofs.Spelling.{same_order}
+use Rattle.pc_words.proofs.SpellingLemmas.{one_thing}
 use Rattle.pc_app.proofs.AnswerLemmas.{says_ends, order_answers, answers_is_answered, answers_usage, of_nothing, of_bytes}
 use Rattle.pc_app.proofs.PromiseLemmas.{infer_is_exact, infer_covers, certify_is_right, replay_is_ruling, run_is_verdict, show_is_text, facts_are_known, quick_is_enough, trial_is_told, of_source_accepts, suffices_of}
 use Rattle.pc_app.proofs.OnlyLemmas.{order_once, words_once}
@@ -147,7 +147,7 @@ module _ (words : List Bytes) (held : Bytes → Holding) (old new : Option Bytes
   not_lost_behind source other there also kept (inr behind) = not_lost other also kept behind.lost
 
   none_lost : (inputs : Inputs) → AreThere held (names_of inputs) → (Rose store_before store_now → ⊥) → AreLost held store_before store_now inputs → ⊥
-  none_lost NoFile there kept lost = absurd lost
+  none_lost (Made loops) there kept lost = absurd lost
   none_lost (Source source) there kept lost = not_lost source there.0 kept lost
   none_lost (WithCertificate source certificate) there kept lost = not_lost_behind source certificate there.0 there.1.0 kept lost
   none_lost (WithScript source script) there kept lost = not_lost_behind source script there.0 there.1.0 kept lost
@@ -155,7 +155,7 @@ module _ (words : List Bytes) (held : Bytes → Holding) (old new : Option Bytes
   pub answers : Ended → (order : Order) → Orders words order → AreThere held (files_of order) → (Rose store_before store_now → ⊥) → (Rose sink_before sink_now → ⊥) → IsAnswered status ⊎ (status ≡ NO_MEMORY)
   answers (Answered a) order is there store_kept sink_kept = inl (answers_is_answered words held status a.text a.answers)
   answers (Unread s lacks same) order is there store_kept sink_kept =
-      let same = same_order words order lacks.order is lacks.named in
+      let same = one_thing words order lacks.order is lacks.named in
       absurd (none_lost (inputs_of order) there store_kept (subst (λ (o : Order). OrderIsLost held store_before store_now o) same lacks.lost))
   answers (CutOff s cut) order is there store_kept sink_kept = absurd (sink_kept cut.cause)
   answers (Starved s same) order is there store_kept sink_kept = inr s

@@ -13,7 +13,7 @@ use Rattle.pc_flow.specs.Flow.{Flow}
 use Rattle.pc_replay.specs.Rule.{ruling}
 use Rattle.pc_runner.specs.Scripts.{Choosing}
 use Rattle.pc_runner.proofs.Sayings.{says_only}
-use Rattle.pc_words.specs.Words.{Order, Infer, Certify, Replay, Run, Facts, Quick, Show, Trial, Inputs, NoFile, Source, WithCertificate, WithScript, inputs_of, names_of, files_of}
+use Rattle.pc_words.specs.Words.{Order, Infer, Certify, Replay, Run, Facts, Quick, Show, Trial, Inputs, Made, Source, WithCertificate, WithScript, inputs_of, names_of, files_of}
 use Rattle.pc_words.specs.Taken.{Orders}
 use Rattle.pc_app.specs.Rulings.{ruling_status}
 use Rattle.pc_app.specs.Verdicts.{verdict_status}
@@ -51,7 +51,7 @@ not_both limit held told a b holds more has =
 
 -- files mean the same: programs are equal but for their proofs
 abbrev AreSame : (inputs : Inputs) → Given inputs → Given inputs → Type 0
-AreSame NoFile g h = Unit {0}
+AreSame (Made loops) g h = Unit {0}
 AreSame (Source source) p q = content_of p ≡ content_of q
 AreSame (WithCertificate source certificate) g h = (content_of g.0 ≡ content_of h.0) × (g.1 ≡ h.1)
 AreSame (WithScript source script) g h = (content_of g.0 ≡ content_of h.0) × (g.1 ≡ h.1)
@@ -108,7 +108,7 @@ module _ (s : ℕ) (t : Bytes) (s' : ℕ) (t' : Bytes) where
   -- two answers to the files of an order have one status
   inputs_once : (held : Bytes → Holding) (inputs : Inputs) (A : Given inputs → ℕ → Bytes → Type 0) → AreTold held (names_of inputs) →
       ((g h : Given inputs) → AreSame inputs g h → A g s t → A h s' t' → s ≡ s') → OnInputs held inputs A s t → OnInputs held inputs A s' t' → s ≡ s'
-  inputs_once held NoFile A told one x y = one tt tt tt x y
+  inputs_once held (Made loops) A told one x y = one tt tt tt x y
   inputs_once held (Source source) A told one x y = source_once A A (held source) told.0 one x y
   inputs_once held (WithCertificate source certificate) A told one x y =
       source_once (OnCertificate (held certificate) A) (OnCertificate (held certificate) A) (held source) told.0

@@ -11,7 +11,7 @@ use Rattle.pc_app.specs.Kinds.{source_kind, script_kind, certificate_kind}
 use Rattle.pc_app.specs.Answers.{Given, OnCertificate, OnScript, OnInputs}
 use Rattle.pc_app.specs.Causes.{IsMeaningless, Behind, AreTooLong, AreRefused, AreMalformed, AreMeant, IsEnd, IsRuling, IsVerdict}
 use Rattle.pc_app.specs.Promises.{AreTold, AreThere}
-use Rattle.pc_words.specs.Words.{Inputs, NoFile, Source, WithCertificate, WithScript, names_of}
+use Rattle.pc_words.specs.Words.{Inputs, Made, Source, WithCertificate, WithScript, names_of}
 use Rattle.pc_app.proofs.AnswerLemmas.{AllEnd}
 use Rattle.pc_app.proofs.CauseLemmas.{may_be_there, is_there, over_answer, over_cause, file_cases, meaningless_answer, meaningless_cause, meant_read, may_mean}
 use Rattle.pc_app.proofs.KindLemmas.{AreAlike, source_decided, script_decided, certificate_decided}
@@ -20,7 +20,7 @@ use Rattle.pc_app.proofs.KindLemmas.{AreAlike, source_decided, script_decided, c
 
 module _ (held : Bytes → Holding) where
   pub too_long_answer : (inputs : Inputs) (A : Given inputs → ℕ → Bytes → Type 0) → AreTooLong held inputs → (text : Bytes) × OnInputs held inputs A TOO_LONG text
-  too_long_answer NoFile A h = absurd h
+  too_long_answer (Made loops) A h = absurd h
   too_long_answer (Source source) A h = (source_kind.long, over_answer source_kind A (held source) h)
   too_long_answer (WithCertificate source certificate) A (inl h) = (source_kind.long, over_answer source_kind (OnCertificate (held certificate) A) (held source) h)
   too_long_answer (WithCertificate source certificate) A (inr b) = (certificate_kind.long, IsRead b.program b.spelled (over_answer certificate_kind (λ c. A (b.program, c)) (held certificate) b.cause))
@@ -30,13 +30,13 @@ module _ (held : Bytes → Holding) where
       (kind.long, IsRead b.program b.spelled (over_answer kind (λ c. A (b.program, c)) (held script) b.cause))
 
   pub refused_answer : (inputs : Inputs) (A : Given inputs → ℕ → Bytes → Type 0) → AreRefused held inputs → (text : Bytes) × OnInputs held inputs A REFUSED text
-  refused_answer NoFile A h = absurd h
+  refused_answer (Made loops) A h = absurd h
   refused_answer (Source source) A h = meaningless_answer source_kind A (held source) AreAlike source_decided h
   refused_answer (WithCertificate source certificate) A h = meaningless_answer source_kind (OnCertificate (held certificate) A) (held source) AreAlike source_decided h
   refused_answer (WithScript source script) A h = meaningless_answer source_kind (OnScript (held script) A) (held source) AreAlike source_decided h
 
   pub malformed_answer : (inputs : Inputs) (A : Given inputs → ℕ → Bytes → Type 0) → AreMalformed held inputs → (text : Bytes) × OnInputs held inputs A MALFORMED text
-  malformed_answer NoFile A h = absurd h
+  malformed_answer (Made loops) A h = absurd h
   malformed_answer (Source source) A h = absurd h
   malformed_answer (WithCertificate source certificate) A b =
       let x = meaningless_answer certificate_kind (λ c. A (b.program, c)) (held certificate) _ certificate_decided b.cause in
@@ -75,7 +75,7 @@ module _ (status : ℕ) (text : Bytes) where
   module _ (held : Bytes → Holding) where
     pub too_long_cause : (inputs : Inputs) (A : Given inputs → ℕ → Bytes → Type 0) → AllEnd status text inputs A → AreTold held (names_of inputs) → status ≡ TOO_LONG → OnInputs held inputs A status text →
         AreTooLong held inputs
-    too_long_cause NoFile A ends told e a = let s : status ≡ DONE = ends tt a in absurd (omega arith)
+    too_long_cause (Made loops) A ends told e a = let s : status ≡ DONE = ends tt a in absurd (omega arith)
     too_long_cause (Source source) A ends told e a =
         only_left (λ x. let s : status ≡ DONE = ends x.0 x.2 in omega arith)
         (over_cause source_kind A (held source) status text told.0 (λ l. omega arith) e a)
@@ -104,7 +104,7 @@ module _ (status : ℕ) (text : Bytes) where
 
     pub refused_cause : (inputs : Inputs) (A : Given inputs → ℕ → Bytes → Type 0) → AllEnd status text inputs A → AreTold held (names_of inputs) → status ≡ REFUSED → OnInputs held inputs A status text →
         AreRefused held inputs
-    refused_cause NoFile A ends told e a = let s : status ≡ DONE = ends tt a in absurd (omega arith)
+    refused_cause (Made loops) A ends told e a = let s : status ≡ DONE = ends tt a in absurd (omega arith)
     refused_cause (Source source) A ends told e a =
         only_left (λ x. let s : status ≡ DONE = ends x.0 x.2 in omega arith)
         (meaningless_cause source_kind A (held source) AreAlike source_decided status text told.0 (λ l. omega arith) e a)
@@ -117,7 +117,7 @@ module _ (status : ℕ) (text : Bytes) where
 
     pub malformed_cause : (inputs : Inputs) (A : Given inputs → ℕ → Bytes → Type 0) → AllEnd status text inputs A → AreTold held (names_of inputs) → status ≡ MALFORMED → OnInputs held inputs A status text →
         AreMalformed held inputs
-    malformed_cause NoFile A ends told e a = let s : status ≡ DONE = ends tt a in absurd (omega arith)
+    malformed_cause (Made loops) A ends told e a = let s : status ≡ DONE = ends tt a in absurd (omega arith)
     malformed_cause (Source source) A ends told e a = (behind A (held source) (λ p. ⊥) e (λ p b. let s : status ≡ DONE = ends p b in omega arith) a).cause
     malformed_cause (WithCertificate source certificate) A ends told e a =
         behind (OnCertificate (held certificate) A) (held source) (λ p. IsMeaningless certificate_kind (held certificate)) e
@@ -134,7 +134,7 @@ module _ (status : ℕ) (text : Bytes) where
 
     -- where each file is what it is to be, all of them are read
     pub outcome : (inputs : Inputs) (A : Given inputs → ℕ → Bytes → Type 0) → AllEnd status text inputs A → AreTold held (names_of inputs) → AreMeant held inputs → OnInputs held inputs A status text → IsEnd inputs status
-    outcome NoFile A ends told h a = ends tt a
+    outcome (Made loops) A ends told h a = ends tt a
     outcome (Source source) A ends told h a =
         let x = may_mean source_kind (held source) h in
         let y = meant_read source_kind A (held source) AreAlike source_decided status text told.0 x.0 x.1 a in
@@ -154,7 +154,7 @@ module _ (status : ℕ) (text : Bytes) where
 
 -- files that mean something are there
 pub are_there : (held : Bytes → Holding) (inputs : Inputs) → AreMeant held inputs → AreThere held (names_of inputs)
-are_there held NoFile h = tt
+are_there held (Made loops) h = tt
 are_there held (Source source) h = (is_there _ (held source) h, tt)
 are_there held (WithCertificate source certificate) h = (may_be_there (held source) h.spelled.bytes h.spelled.has.holds, (is_there _ (held certificate) h.cause, tt))
 are_there held (WithScript source script) h = (may_be_there (held source) h.spelled.bytes h.spelled.has.holds, (is_there _ (held script) h.cause, tt))

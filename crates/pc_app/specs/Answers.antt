@@ -18,7 +18,7 @@ use Rattle.pc_app.specs.declared.status.TheConstants.{DONE, USAGE}
 use Rattle.pc_app.specs.declared.limits.TheConstants.{CERTIFICATE_BYTES}
 use Rattle.pc_app.specs.Files.{OnFile}
 use Rattle.pc_app.specs.Kinds.{source_kind, script_kind, certificate_kind}
-use Rattle.pc_words.specs.Words.{Order, Infer, Certify, Replay, Run, Facts, Quick, Show, Trial, Inputs, NoFile, Source, WithCertificate, WithScript, inputs_of}
+use Rattle.pc_words.specs.Words.{Order, Infer, Certify, Replay, Run, Facts, Quick, Show, Trial, Inputs, Made, Source, WithCertificate, WithScript, inputs_of}
 use Rattle.pc_words.specs.Taken.{AreCommand, Orders}
 use Rattle.pc_words.specs.declared.domains.FactsDomain.{FactsDomain}
 use Rattle.pc_words.specs.declared.domains.QuickDomain.{QuickDomain}
@@ -81,7 +81,7 @@ OnRun held p status text = OnFile (script_kind p.names.params) (RunAnswers p) he
 
 -- what the files of an order mean
 abbrev pub Given : Inputs → Type 0
-Given NoFile = Unit {0}
+Given (Made loops) = Unit {0}
 Given (Source source) = Program
 Given (WithCertificate source certificate) = Program × Certificate
 Given (WithScript source script) = Program × Choosing
@@ -106,7 +106,7 @@ OnScript held A p = OnFile (script_kind p.names.params) (λ c. A (p, c)) held
 
 -- files are answered, one after the other, where their meanings are answered so
 abbrev pub OnInputs : (Bytes → Holding) → (inputs : Inputs) → (Given inputs → ℕ → Bytes → Type 0) → ℕ → Bytes → Type 0
-OnInputs held NoFile A = A tt
+OnInputs held (Made loops) A = A tt
 OnInputs held (Source source) A = OnFile source_kind A (held source)
 OnInputs held (WithCertificate source certificate) A = OnFile source_kind (OnCertificate (held certificate) A) (held source)
 OnInputs held (WithScript source script) A = OnFile source_kind (OnScript (held script) A) (held source)

@@ -6,7 +6,7 @@ use Rattle.pc_program.specs.declared.program.Program.{Program}
 use Rattle.pc_app.specs.declared.status.TheConstants.{DONE, FAILED, PAST}
 use Rattle.pc_app.specs.Files.{Kind, MayMean}
 use Rattle.pc_app.specs.Kinds.{source_kind, script_kind, certificate_kind}
-use Rattle.pc_words.specs.Words.{Order, Inputs, NoFile, Source, WithCertificate, WithScript, inputs_of}
+use Rattle.pc_words.specs.Words.{Order, Inputs, Made, Source, WithCertificate, WithScript, inputs_of}
 
 -- what holds of the bytes that are held
 abbrev pub IsHeld : (Bytes → Type 0) → Holding → Type 0
@@ -34,28 +34,28 @@ pub record Behind (source : Holding) (P : Program → Type 0) : Type 0 where
 
 -- more bytes than its limit are held under a name, of which the second counts only behind a program
 abbrev pub AreTooLong : (Bytes → Holding) → Inputs → Type 0
-AreTooLong held NoFile = ⊥
+AreTooLong held (Made loops) = ⊥
 AreTooLong held (Source source) = IsOver source_kind (held source)
 AreTooLong held (WithCertificate source certificate) = IsOver source_kind (held source) ⊎ Behind (held source) (λ p. IsOver certificate_kind (held certificate))
 AreTooLong held (WithScript source script) = IsOver source_kind (held source) ⊎ Behind (held source) (λ p. IsOver (script_kind p.names.params) (held script))
 
 -- the source spells no program
 abbrev pub AreRefused : (Bytes → Holding) → Inputs → Type 0
-AreRefused held NoFile = ⊥
+AreRefused held (Made loops) = ⊥
 AreRefused held (Source source) = IsMeaningless source_kind (held source)
 AreRefused held (WithCertificate source certificate) = IsMeaningless source_kind (held source)
 AreRefused held (WithScript source script) = IsMeaningless source_kind (held source)
 
 -- the source spells a program, and the certificate or the script is none
 abbrev pub AreMalformed : (Bytes → Holding) → Inputs → Type 0
-AreMalformed held NoFile = ⊥
+AreMalformed held (Made loops) = ⊥
 AreMalformed held (Source source) = ⊥
 AreMalformed held (WithCertificate source certificate) = Behind (held source) (λ p. IsMeaningless certificate_kind (held certificate))
 AreMalformed held (WithScript source script) = Behind (held source) (λ p. IsMeaningless (script_kind p.names.params) (held script))
 
 -- each file is what it is to be
 abbrev pub AreMeant : (Bytes → Holding) → Inputs → Type 0
-AreMeant held NoFile = Unit {0}
+AreMeant held (Made loops) = Unit {0}
 AreMeant held (Source source) = IsMeant source_kind (held source)
 AreMeant held (WithCertificate source certificate) = Behind (held source) (λ p. IsMeant certificate_kind (held certificate))
 AreMeant held (WithScript source script) = Behind (held source) (λ p. IsMeant (script_kind p.names.params) (held script))
@@ -82,7 +82,7 @@ IsVerdict status = (status ≡ DONE) ⊎ ((status ≡ FAILED) ⊎ (status ≡ PA
 
 -- the statuses where all files are read: a certificate is ruled on, a script gives a verdict
 abbrev pub IsEnd : Inputs → ℕ → Type 0
-IsEnd NoFile status = status ≡ DONE
+IsEnd (Made loops) status = status ≡ DONE
 IsEnd (Source source) status = status ≡ DONE
 IsEnd (WithCertificate source certificate) status = IsRuling status
 IsEnd (WithScript source script) status = IsVerdict status

@@ -5,7 +5,7 @@ use Rattle.pc_text.specs.Bytes.{Bytes}
 use Rattle.pc_program.specs.declared.program.Program.{Program}
 use Rattle.pc_app.specs.Files.{MayMean}
 use Rattle.pc_app.specs.Kinds.{source_kind}
-use Rattle.pc_words.specs.Words.{Order, Inputs, NoFile, Source, WithCertificate, WithScript, inputs_of}
+use Rattle.pc_words.specs.Words.{Order, Inputs, Made, Source, WithCertificate, WithScript, inputs_of}
 use Rattle.pc_words.specs.Taken.{Orders}
 
 -- the reading of a file failed, or the store tells that it lacks the file
@@ -21,7 +21,7 @@ pub record IsLostBehind (source other : Holding) (before now : ℕ) : Type 0 whe
 -- files are read one after the other, and one of them is lost: a second file counts only behind a source that is there, short
 -- enough and without a fault
 abbrev pub AreLost : (Bytes → Holding) → ℕ → ℕ → Inputs → Type 0
-AreLost held before now NoFile = ⊥
+AreLost held before now (Made loops) = ⊥
 AreLost held before now (Source source) = IsLost (held source) before now
 AreLost held before now (WithCertificate source certificate) = IsLost (held source) before now ⊎ IsLostBehind (held source) (held certificate) before now
 AreLost held before now (WithScript source script) = IsLost (held source) before now ⊎ IsLostBehind (held source) (held script) before now

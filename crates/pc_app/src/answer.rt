@@ -3,7 +3,7 @@
 ghost use Rattle.std.specs.Prelude.{◌≡◌, ℕ, List, map, string_bytes, IfOk};
 ghost use Rattle.std.specs.List.{AllByRecursion};
 ghost use Rattle.pc_gen.specs.Made.{IsLoops};
-ghost use Rattle.pc_words.specs.Words.{Order, IsOrder, IsPlain, loops_of, ordered};
+ghost use Rattle.pc_words.specs.Words.{Order, IsOrder, IsPlain, inputs_of, loops_in, ordered};
 ghost use Rattle.pc_app.specs.Reading.{OrderIs, WordsAre};
 
 use crate::facts::answer_to_facts;
@@ -104,7 +104,7 @@ fn answer_to_command<S: Store>(
     command: Command<'_>,
     store: &mut S,
 ) -> Result<Answer, Stop>
-    requires { AllByRecursion IsLoops (loops_of (ordered command.entry)) }
+    requires { AllByRecursion IsLoops (loops_in (inputs_of (ordered command.entry))) }
     ensures answered { OrderIs (S.holding store.old) (S.faults store.old) (S.faults store.new) (ordered command.entry) result }
     ensures kept { (name : List ℕ) → S.holding store.new name ≡ S.holding store.old name }
 {

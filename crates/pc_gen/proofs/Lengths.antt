@@ -1,41 +1,37 @@
--- Made sources are short.
-use Rattle.std.proofs.Common.{◌≡◌, ◌≤◌, ◌<◌, ◌+◌, ◌-◌, ◌*◌, ◌^◌, ℕ, zero, suc, pos, Bool, true, false, cond, [], ◌∷◌, ◌++◌, length, length-append, map, codes, refl, arith}
-use Rattle.std.specs.Prelude.{◌==◌}
-use Rattle.std.specs.Int.Digits.{digits_of}
-use Rattle.std.proofs.lemmas.Int.Digits.{length-digits_of-le}
-use Rattle.std.proofs.lemmas.List.{length-map}
-use Rattle.pc_text.specs.Bytes.{Bytes}
+-- How long made sources are: the longest is the one with the most loops.
+use Rattle.std.proofs.Common.{◌≡◌, ◌∙◌, ℕ, zero, suc, ◌+◌, ◌-◌, ◌≤◌, ◌++◌, length, codes, ap, refl, subst, arith}
+use Rattle.std.proofs.lemmas.List.{length-append}
 use Rattle.pc_text.specs.Numerals.{numeral}
+use Rattle.pc_gen.specs.declared.made.TheConstants.{MADE_BYTES}
 use Rattle.pc_gen.specs.Pieces.{counted}
 use Rattle.pc_gen.specs.Made.{IsLoops, loop_text, loops_text, made}
 
-natural_by : (n : ℕ) (t : Bool) → n < 10 ^ 2 → length (cond t (48 ∷ []) (map (λ d. 48 + d) (digits_of 10 n))) ≤ 2
-natural_by n true h = omega arith
-natural_by n false h = omega (arith, length-digits_of-le 10 2 n (omega arith) h, length-map (digits_of 10 n) (λ (d : ℕ). 48 + d))
+-- more loops are no shorter
+rises : (n more : ℕ) → length (loops_text n) ≤ length (loops_text (more + n))
+rises n zero =
+    let sum : 0 + n ≡ n = omega arith in
+    let same = ap (λ m. length (loops_text m)) sum in
+    omega (arith, same)
+rises n (suc more) =
+    let sum : suc more + n ≡ suc (more + n) = omega arith in
+    let same : length (loops_text (suc more + n)) ≡ length (loops_text (more + n) ++ loop_text (suc (more + n))) = ap (λ m. length (loops_text m)) sum in
+    let parts = same ∙ length-append (loops_text (more + n)) (loop_text (suc (more + n))) in
+    let before = rises n more in
+    omega (arith, parts, before)
 
-numeral_short : (n : ℕ) → n < 10 ^ 2 → length (numeral (pos n)) ≤ 2
-unfolding numeral
-numeral_short n h = natural_by n (n == 0) h
+longest : length (loops_text 64) ≡ 4663
+unfolding counted numeral
+longest = refl
 
-counted_short : (before : Bytes) (n : ℕ) (behind : Bytes) → n < 10 ^ 2 → length (counted before n behind) ≤ length before + 2 + length behind
-unfolding counted
-counted_short before n behind h =
-    let is : length (counted before n behind) ≡ length ((before ++ numeral (pos n)) ++ behind) = refl in
-    omega (arith, is, length-append (before ++ numeral (pos n)) behind, length-append before (numeral (pos n)), numeral_short n h)
+with_ends : (n : ℕ) → length (made n) ≡ 23 + length (loops_text n)
+with_ends n =
+    let front : length (codes "entry (a) {\n  var i;\n" ++ loops_text n) ≡ 21 + length (loops_text n) = length-append (codes "entry (a) {\n  var i;\n") (loops_text n) in
+    let whole : length (made n) ≡ length (codes "entry (a) {\n  var i;\n" ++ loops_text n) + 2 = length-append (codes "entry (a) {\n  var i;\n" ++ loops_text n) (codes "}\n") in
+    omega (arith, front, whole)
 
-loop_short : (n : ℕ) → n < 10 ^ 2 → length (loop_text n) ≤ 73
-loop_short n h = counted_short (codes "  i = 0;\n  while (i < 10) {\n    assert (i <= a + ") n (codes ");\n    i = i + 1;\n  }\n") h
-
-loops_short : (n : ℕ) → n < 10 ^ 2 → length (loops_text n) ≤ 73 * n
-loops_short zero h = omega arith
-loops_short (suc n) h = omega (arith, length-append (loops_text n) (loop_text (suc n)), loops_short n (omega arith), loop_short (suc n) h)
-
-pub made_short : (n : ℕ) → IsLoops n → length (made n) < 2 ^ 32 - 1
-made_short n h =
-    let front : length (codes "entry (a) {\n  var i;\n") ≡ 21 = refl in
-    let end : length (codes "}\n") ≡ 2 = refl in
-    let first = length-append (codes "entry (a) {\n  var i;\n" ++ loops_text n) (codes "}\n") in
-    let second = length-append (codes "entry (a) {\n  var i;\n") (loops_text n) in
-    let loops = loops_short n (let most = h.1 in omega arith) in
-    let most = h.1 in
-    omega arith
+pub short : (n : ℕ) → IsLoops n → length (made n) ≤ MADE_BYTES
+short n h =
+    let sum : (64 - n) + n ≡ 64 = omega (arith, h.1) in
+    let most : length (loops_text n) ≤ length (loops_text 64) = subst (λ m. length (loops_text n) ≤ length (loops_text m)) sum (rises n (64 - n)) in
+    let ends = with_ends n in
+    omega (arith, most, ends, longest)

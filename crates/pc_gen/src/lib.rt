@@ -5,5 +5,5 @@ mod made;
 mod pieces;
 mod summary;
 
-pub use made::{LOOPS, in_range, make};
+pub use made::{LOOPS, MADE_BYTES, in_range, make};
 pub use summary::{Summary, push_summary};

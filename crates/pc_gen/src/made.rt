@@ -1,6 +1,6 @@
 //! The made source of a number of loops.
 
-ghost use Rattle.std.specs.Prelude.{◌≡◌, ◌++◌, ◌↔◌, IsTrue, IfOk, OnOk};
+ghost use Rattle.std.specs.Prelude.{◌≡◌, ◌≤◌, ◌++◌, ◌↔◌, length, IsTrue, IfOk, OnOk};
 ghost use Rattle.pc_gen.specs.Made.{IsLoops, loop_text, loops_text, made};
 
 use crate::pieces::push_counted;
@@ -10,7 +10,10 @@ use std::alloc::Global;
 /// The most loops of a made source.
 pub const LOOPS: u32 = 64;
 
-const _: () = prove!(LOOPS == 64);
+/// How many bytes a made source has at most.
+pub const MADE_BYTES: usize = 4_686;
+
+const _: () = prove!(LOOPS == 64 && MADE_BYTES == 4_686);
 
 /// Whether there is a made source with this many loops: from 1 to [`LOOPS`].
 pub fn in_range(loops: u32) -> bool
@@ -21,9 +24,11 @@ pub fn in_range(loops: u32) -> bool
 
 /// The source with this many loops, one behind the other. The K-th counts to 10, and asserts each
 /// time that its counter is at most K above the parameter.
+#[tactic(auto, using(crate::proofs::Lengths::short))]
 pub fn make(alloc: Global, loops: u32) -> Result<Text, NoMemory>
     requires { IsLoops loops }
-    ensures { IfOk result (λ text. text ≡ made loops) }
+    ensures text { IfOk result (λ text. text ≡ made loops) }
+    ensures short { length (made loops) ≤ MADE_BYTES }
 {
     let mut text = Text::new(alloc);
     text.push_all(b"entry (a) {\n  var i;\n")?;
@@ -34,7 +39,6 @@ pub fn make(alloc: Global, loops: u32) -> Result<Text, NoMemory>
 
 /// Adds so many loops.
 fn push_loops(text: &mut Text, loops: u32) -> Result<(), NoMemory>
-    requires { IsLoops loops }
     ensures { OnOk result (text.new ≡ text.old ++ loops_text loops) }
 {
     let mut done = 0;

@@ -3,5 +3,5 @@ pub mod LoopLemmas
 pub mod Adding
 pub mod SimpleCommand
 pub mod Plainness
-pub mod Spelling
 mod Examples
+pub mod SpellingLemmas

@@ -21,6 +21,10 @@ pub record IsTakenAs (words list : List Bytes) : Type 0 where
 abbrev pub Orders : List Bytes → Order → Type 0
 Orders words order = IsOrder words order ⊎ ((IsPlain words → ⊥) × IsTaken words order)
 
+-- words order one thing
+abbrev pub WordsOrderOneThing : Type 0
+WordsOrderOneThing = (words : List Bytes) (a b : Order) → Orders words a → Orders words b → b ≡ a
+
 -- the words order something
 abbrev pub AreCommand : List Bytes → Type 0
 AreCommand words = (order : Order) × Orders words order

@@ -50,12 +50,12 @@ words_of (Quick domain source) = codes "quick" ∷ source ∷ quick_word domain 
 words_of (Show source) = codes "show" ∷ source ∷ []
 words_of (Trial loops) = codes "trial" ∷ numeral (pos loops) ∷ []
 
--- the files that are read for an order, one after the other: none, a source alone, or a certificate or a script behind it
+-- what is read for an order: a source alone, or a certificate or a script behind it, from files; or the made source with so many loops
 pub data Inputs : Type 0 where
-  NoFile : Inputs
   Source : Bytes → Inputs
   WithCertificate : Bytes → Bytes → Inputs
   WithScript : Bytes → Bytes → Inputs
+  Made : ℕ → Inputs
 
 abbrev pub inputs_of : Order → Inputs
 inputs_of (Infer source) = Source source
@@ -65,35 +65,31 @@ inputs_of (Run source script) = WithScript source script
 inputs_of (Facts domain source) = Source source
 inputs_of (Quick domain source) = Source source
 inputs_of (Show source) = Source source
-inputs_of (Trial loops) = NoFile
+inputs_of (Trial loops) = Made loops
 
--- their names
+-- the files that are named, one after the other
 abbrev pub names_of : Inputs → List Bytes
-names_of NoFile = []
 names_of (Source source) = source ∷ []
 names_of (WithCertificate source certificate) = source ∷ certificate ∷ []
 names_of (WithScript source script) = source ∷ script ∷ []
+names_of (Made loops) = []
+
+-- the numbers of loops that are named
+abbrev pub loops_in : Inputs → List ℕ
+loops_in (Source source) = []
+loops_in (WithCertificate source certificate) = []
+loops_in (WithScript source script) = []
+loops_in (Made loops) = loops ∷ []
 
 -- the files that an order names
 abbrev pub files_of : Order → List Bytes
 files_of order = names_of (inputs_of order)
 
--- the number of loops that it names
-abbrev pub loops_of : Order → List ℕ
-loops_of (Infer source) = []
-loops_of (Certify source) = []
-loops_of (Replay source certificate) = []
-loops_of (Run source script) = []
-loops_of (Facts domain source) = []
-loops_of (Quick domain source) = []
-loops_of (Show source) = []
-loops_of (Trial loops) = loops ∷ []
-
 -- the words order this, of files, or of as many loops as a made source may have
 pub record IsOrder (words : List Bytes) (order : Order) : Type 0 where
   pub spelled : words ≡ words_of order
   pub files : AllByRecursion IsFile (files_of order)
-  pub loops : AllByRecursion IsLoops (loops_of order)
+  pub loops : AllByRecursion IsLoops (loops_in (inputs_of order))
 
 -- words in a plain form
 abbrev pub IsPlain : List Bytes → Type 0
