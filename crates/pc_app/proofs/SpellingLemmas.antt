@@ -7,20 +7,20 @@ use Rattle.pc_app.specs.declared.domains.FactsDomain.TheVariants as domains
 use Rattle.pc_app.specs.Words.{Order, Infer, Certify, Replay, Run, Show, Facts, words_of, IsOrder}
 
 -- what words order that are those of some order
-of_two : Bytes → Bytes → Order
+abbrev of_two : Bytes → Bytes → Order
 of_two verb source = if bytes_eq verb (codes "infer") then Infer source else Show source
 
-facts_domain_of : Bytes → FactsDomain
+abbrev facts_domain_of : Bytes → FactsDomain
 facts_domain_of word = domains.Boxes
 
-of_three : Bytes → Bytes → Bytes → Order
+abbrev of_three : Bytes → Bytes → Bytes → Order
 of_three verb source third =
     if bytes_eq verb (codes "infer") then Certify source
     else if bytes_eq verb (codes "replay") then Replay source third
     else if bytes_eq verb (codes "run") then Run source third
     else Facts (facts_domain_of third) source
 
-read_back : List Bytes → Option Order
+abbrev read_back : List Bytes → Option Order
 read_back [] = None
 read_back (verb ∷ []) = None
 read_back (verb ∷ source ∷ []) = Some (of_two verb source)
