@@ -1,5 +1,5 @@
 -- What the top call promises, by its words, by what the store tells and what the sink tells, and by their counts of faults.
-use Rattle.std.specs.Prelude.{◌≡◌, ◌≢◌, ◌⊎◌, ◌≤◌, ℕ, Option, List, [], ◌∷◌, ◌++◌, length, Ok, codes}
+use Rattle.std.specs.Prelude.{◌≡◌, ◌≢◌, ◌≤◌, ℕ, Option, List, [], ◌∷◌, ◌++◌, length, Ok, codes}
 use Rattle.pc_ports.specs.Outside.{Holding, Untold, Nothing, Held, Rose, Appended, FrontAppended}
 use Rattle.pc_rows.specs.Linear.{Linear}
 use Rattle.pc_text.specs.Bytes.{Bytes}
