@@ -8,10 +8,12 @@ use Rattle.pc_program.specs.Forms.{rows_all}
 use Rattle.pc_program.specs.declared.program.Program.{Program}
 use Rattle.pc_program.specs.declared.tree.Stmt.{Stmt, fold-roll-Stmt}
 use Rattle.pc_program.specs.declared.tree.Stmt.TheOpen as stmt
+use Rattle.pc_program.specs.Loops.{whiles, whiles_step, whiles_of}
 use Rattle.pc_program.proofs.Stmts.{by_stmt}
 use Rattle.pc_flow.specs.declared.what.What.{What}
 use Rattle.pc_flow.specs.declared.what.What.TheVariants.{Test, Check}
 use Rattle.pc_flow.specs.Arc.{Arc}
+use Rattle.pc_flow.proofs.Lists.{none_joined}
 use Rattle.pc_graph.specs.Lowering.{Piece, Rule, after, one, rule, rule_step, rules, made, graph}
 use Rattle.pc_poly.specs.Chains.{IsTest, tests_of, Follows, tests_count, IsChain}
 use Rattle.pc_app.specs.Checks.{check_step, is_check, are_checks, rows_step, rows_of, rows_count, AreChecks}
@@ -74,3 +76,29 @@ checks_are_chains p h =
       follows = line.follows;
       few = subst (λ (k : ℕ). k ≤ ROWS) (sym line.rows) h.few;
     }
+
+-- ---- no loops
+
+abbrev FreeBy : Bool → List Place → Type 0
+FreeBy b places = b ≡ true → places ≡ []
+
+free_by : (b : Bool) (ps : List Place) → ps ≡ [] → FreeBy b ps
+free_by b ps e ok = e
+
+free_of : (x : Stmt) → FreeBy (is_check x) (whiles x)
+free_of x = by_stmt (λ x. FreeBy (is_check x) (whiles x))
+    (λ place v r. free_by _ _ (fold-roll-Stmt (List Place) whiles_step (stmt.Set place v r)))
+    (λ place t xs ys hx hy e. let f = fold-roll-Stmt Bool check_step (stmt.If place t xs ys) in absurd (cc))
+    (λ place t tried xs hx e. let f = fold-roll-Stmt Bool check_step (stmt.While place t tried xs) in absurd (cc))
+    (λ place cs. free_by _ _ (fold-roll-Stmt (List Place) whiles_step (stmt.Assert place cs)))
+    (λ place cs. free_by _ _ (fold-roll-Stmt (List Place) whiles_step (stmt.Assume place cs)))
+    x
+
+list_free : (xs : List Stmt) → are_checks xs ≡ true → whiles_of xs ≡ []
+list_free [] ok = refl
+list_free (x ∷ xs) ok =
+    let both = and_parts (is_check x) (are_checks xs) ok in
+    none_joined (whiles x) (whiles_of xs) (free_of x both.0) (list_free xs both.1)
+
+pub checks_are_free : (p : Program) → AreChecks p → whiles_of p.body ≡ []
+checks_are_free p h = list_free p.body h.checks

@@ -1,8 +1,8 @@
--- What boxes know at the points of a graph is what they know of the program.
+-- What domains know at the points of a graph is what they know of the program.
 use Rattle.std.proofs.Common.{◌≡◌, ◌∙◌, ℕ, ◌<◌, List, length, map, sym, ap, subst, Some, None, slice_get, arith}
 use Rattle.std.specs.Option.{option_map}
 use Rattle.std.proofs.lemmas.List.{length-map}
-use Rattle.std.proofs.lemmas.Option.{slice_get-map, slice_get-get_or}
+use Rattle.std.proofs.lemmas.Option.{slice_get-map, slice_get-get_or, slice_get_within}
 use Rattle.pc_rows.specs.Linear.{Linear}
 use Rattle.pc_text.specs.Bytes.{Bytes}
 use Rattle.pc_program.specs.declared.program.Program.{Program}
@@ -19,9 +19,15 @@ use Rattle.pc_box.specs.BoxAt.{boxes_of, box_at}
 use Rattle.pc_box.specs.Laws.{IsTheBoxAt}
 use Rattle.pc_box.specs.Views.{view_of, box_says}
 use Rattle.pc_box.proofs.Answering.{fold_is_box_at, rows_are_box_rows}
+use Rattle.pc_poly.specs.contracts.member.PolyForward.TheImpl.{ghosts as polyhedra}
+use Rattle.pc_poly.specs.Laws.{TellsReach}
+use Rattle.pc_poly.specs.Views.{poly_says}
+use Rattle.pc_poly.proofs.Chaining.{chains_are_exact}
 use Rattle.pc_facts.specs.Facts.{OfFold, IsFacts}
 use Rattle.pc_words.specs.declared.domains.FactsDomain.TheVariants as domains
+use Rattle.pc_app.specs.Checks.{AreChecks}
 use Rattle.pc_app.specs.Known.{AreFacts}
+use Rattle.pc_app.proofs.ChainLemmas.{checks_are_chains, checks_are_free}
 
 module _ (g : Flow) (rows : List (List Linear)) (is : IsGraph g) (none : NoHeads g.points) (fold : OfFold box_says g rows) where
   boxes_are : IsTheBoxAt g fold.views
@@ -53,6 +59,26 @@ boxes_are_facts p text is = record {
     long = is.long;
     met = is.met;
     exact = λ free. let none = loop_free_graphs p free in rows_of_boxes (graph p) is.rows (graph_kept p) none (is.folded none);
+  };
+  printed = is.printed;
+}
+
+module _ (p : Program) (rows : List (List Linear)) (fold : OfFold poly_says (graph p) rows) where
+  -- on a chain of assertions and assumptions the rows tell which entry states come to a point
+  rows_of_checks : AreChecks p → (q : ℕ) (told : List Linear) → slice_get rows q ≡ Some told → TellsReach (graph p) q told
+  rows_of_checks checks q told at =
+      let long = fold.said.long in
+      let e = fold.said.each q (let lt = slice_get_within rows q told at in omega arith) in
+      let same : e.2.0 ≡ told = (let here = e.2.1 in cc) in
+      chains_are_exact (graph p) fold.views q e.0 told (graph_kept p) (checks_are_chains p checks) fold.fold e.1 (subst (poly_says.rows e.0) same e.2.2)
+
+pub polyhedra_are_facts : (p : Program) (text : Bytes) → IsFacts polyhedra (graph p) p.names.names text → AreFacts domains.Polyhedra p text
+polyhedra_are_facts p text is = record {
+  rows = is.rows;
+  known = record {
+    long = is.long;
+    met = is.met;
+    exact = λ checks. rows_of_checks p is.rows (is.folded (loop_free_graphs p (checks_are_free p checks))) checks;
   };
   printed = is.printed;
 }

@@ -2,8 +2,8 @@ pub mod Texts
 pub mod Verdicts
 pub mod Rulings
 pub mod Inferred
-pub mod Known
 pub mod Checks
+pub mod Known
 pub mod Enough
 pub mod Trials
 pub mod Files

@@ -13,6 +13,7 @@ use pc_box::Box16;
 use pc_facts::show_facts;
 use pc_flow::Graph;
 use pc_graph::lower;
+use pc_poly::Poly;
 use pc_ports::Store;
 use pc_program::Program;
 use pc_text::{NoMemory, Text};
@@ -43,6 +44,7 @@ fn facts_of(alloc: Global, domain: FactsDomain, program: &Program) -> Result<Tex
     let graph = lower(alloc, program)?;
     match domain {
         FactsDomain::Boxes => boxes_of(alloc, program, &graph),
+        FactsDomain::Polyhedra => polyhedra_of(alloc, program, &graph),
     }
 }
 
@@ -52,4 +54,12 @@ fn boxes_of(alloc: Global, program: &Program, g: &Graph) -> Result<Text, NoMemor
     ensures { IfOk result (AreFacts FactsDomain.Boxes program.now) }
 {
     show_facts::<Box16>(alloc, g, &program.names)
+}
+
+/// What polyhedra know at each point of a program with its graph.
+fn polyhedra_of(alloc: Global, program: &Program, g: &Graph) -> Result<Text, NoMemory>
+    requires { g.now ≡ graph program.now }
+    ensures { IfOk result (AreFacts FactsDomain.Polyhedra program.now) }
+{
+    show_facts::<Poly>(alloc, g, &program.names)
 }

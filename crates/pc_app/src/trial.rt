@@ -1,8 +1,8 @@
 //! What the words `trial` are answered: how large a made source is, and its condition.
 
-ghost use Rattle.std.specs.Prelude.{◌≡◌, ◌<◌, ◌-◌, ◌^◌, length, IfOk};
+ghost use Rattle.std.specs.Prelude.{◌≡◌, ◌≤◌, length, IfOk};
 ghost use Rattle.pc_gen.specs.Made.{IsLoops, made};
-ghost use Rattle.pc_graph.specs.Lowering.{graph};
+ghost use Rattle.pc_gen.specs.declared.made.TheConstants.{MADE_BYTES};
 ghost use Rattle.pc_syntax.specs.Spelling.{Spells};
 ghost use Rattle.pc_app.specs.Trials.{TrialAnswers, IsTrial, IsSize};
 
@@ -35,6 +35,7 @@ pub(crate) fn answer_to_trial(alloc: Global, loops: u32) -> Result<Answer, NoMem
 fn program_of(alloc: Global, source: &[u8], loops: u32) -> Result<Program, NoMemory>
     requires loops { IsLoops loops }
     requires made { source.now ≡ made loops }
+    requires short { length source.now ≤ MADE_BYTES }
     ensures { IfOk result (Spells source.now) }
 {
     match read(alloc, source) {
