@@ -9,7 +9,9 @@ use Rattle.pc_rows.specs.Linear.{Linear, State, MeetsAll, zero_from}
 use Rattle.pc_rows.specs.Substitution.{never_row}
 use Rattle.pc_rows.proofs.Adding.{drop_got}
 use Rattle.pc_rows.proofs.First.{zero_from_all}
-use Rattle.pc_flow.specs.Arc.{What, Enter, Test, Set, Check, Arc, arc}
+use Rattle.pc_flow.specs.declared.what.What.{What}
+use Rattle.pc_flow.specs.declared.what.What.TheVariants.{Enter, Test, Set, Check}
+use Rattle.pc_flow.specs.Arc.{Arc, arc}
 use Rattle.pc_flow.specs.Flow.{Flow}
 use Rattle.pc_flow.specs.Incidence.{entering}
 use Rattle.pc_flow.specs.Lists.{In}
@@ -117,7 +119,7 @@ said_of_test v (Test rows) new is h = h
 said_of_test v (Set x form lo hi) new is h = absurd is
 said_of_test v (Check rows) new is h = h
 
-rows_count : Value → ℕ
+abbrev pub rows_count : Value → ℕ
 rows_count None = 0
 rows_count (Some p) = length p.rows
 
@@ -136,7 +138,7 @@ follows_test n (f ∷ edges) zero e h at = let same : f ≡ e = cc in subst (λ 
 follows_test n (f ∷ edges) (suc k) e h at = follows_test (n + 1) edges k e h.3 at
 
 module _ (g : Flow) (views : List View) (graph : IsGraph g) (chain : IsChain g) (fold : IsFold poly_says g views) where
-  entry : Arc
+  abbrev pub entry : Arc
   entry = arc 0 1 (Enter g.params)
 
   edges_are : g.edges ≡ entry ∷ drop 1 g.edges
@@ -149,10 +151,10 @@ module _ (g : Flow) (views : List View) (graph : IsGraph g) (chain : IsChain g) 
   is_test k e at = follows_test 1 (drop 1 g.edges) k e chain.follows (subst (λ (z : List Arc). slice_get z (suc k) ≡ Some e) edges_are at)
 
   -- what is known of the value at a point
-  record Exact (k : ℕ) (v : Value) : Type 0 where
-    sound : (s : State) → length s ≡ g.params → HasState v s → Reach g k s
-    complete : (s : State) → Reach g k s → HasState v s
-    few : rows_count v + tests_count (drop k g.edges) ≤ ROWS
+  pub record Exact (k : ℕ) (v : Value) : Type 0 where
+    pub sound : (s : State) → length s ≡ g.params → HasState v s → Reach g k s
+    pub complete : (s : State) → Reach g k s → HasState v s
+    pub few : rows_count v + tests_count (drop k g.edges) ≤ ROWS
 
   at_entry : Exact 0 (boundless g.variables)
   at_entry = record { sound = λ s long h. (s, long, ([], (refl, alone s long))); complete = λ s r. tt; few = all }
@@ -217,13 +219,15 @@ module _ (g : Flow) (views : List View) (graph : IsGraph g) (chain : IsChain g) 
       let joined : folds.0 ≡ brought.0 = brought.2.left flows.1 in
       (v, before, (e, at, subst (λ (z : View). SaysAfter (poly_of v) e.what (poly_of z)) (sym (folds.2 ∙ joined)) brought.1))
 
+  after_entry : (w v : View) (e : Arc) → slice_get views 0 ≡ Some v → slice_get g.edges 0 ≡ Some e → SaysAfter (poly_of v) e.what (poly_of w) → Exact 1 (poly_of w)
+  after_entry w v e at first says =
+      let is : e ≡ entry = let enters = graph.enters in cc in
+      let moved = subst (λ (x : Arc). SaysAfter (poly_of v) x.what (poly_of w)) is says in
+      at_start (poly_of w) (subst (λ (z : Value). SaysEntered z g.params (poly_of w)) (everything_view v at) moved (let same = chain.parameters in omega arith) refl)
+
   pub exact : (k : ℕ) (w : View) → slice_get views k ≡ Some w → Exact k (poly_of w)
   exact zero w at = subst (Exact 0) (sym (everything_view w at)) at_entry
-  exact (suc zero) w at =
-      let a = arrives 0 w at in
-      let is : a.2.0 ≡ entry = let got = a.2.1 in let first = graph.enters in cc in
-      let says = subst (λ (z : Value). SaysAfter z (Enter g.params) (poly_of w)) (everything_view a.0 a.1) (subst (λ (e : Arc). SaysAfter (poly_of a.0) e.what (poly_of w)) is a.2.2) in
-      at_start (poly_of w) (says (let same = chain.parameters in omega arith) refl)
+  exact (suc zero) w at = let a = arrives 0 w at in after_entry w a.0 a.2.0 a.1 a.2.1 a.2.2
   exact (suc (suc k)) w at =
       let a = arrives (suc k) w at in
       after_test k (poly_of a.0) (poly_of w) a.2.0 a.2.1 (exact (suc k) a.0 a.1) a.2.2

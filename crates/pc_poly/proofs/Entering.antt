@@ -41,3 +41,17 @@ between_met p v (r ∷ rows) s le rs h = (
   (let wide = rs.0.wide in subst (λ d. pos 0 ≤ℤ (r.constant +ℤ d)) (dot-between p v r.coefficients s (omega arith)) h.0),
   between_met p v rows s le rs.1 h.1,
 )
+
+-- one variable more becomes 0
+pub between_step : (p v : ℕ) (rows out all : List Linear) → p ≤ v → ((s : State) → MeetsAll s rows → MeetsAll (set s v (pos 0)) out) →
+    ((s : State) → MeetsAll s all → MeetsAll (zero_between p v s) rows) → (s : State) → MeetsAll s all → MeetsAll (zero_between p (v + 1) s) out
+between_step p v rows out all le one so_far s m = subst (λ (t : State). MeetsAll t out) (between_next p v s le) (one (zero_between p v s) (so_far s m))
+
+-- at first none has become 0
+pub between_first : (p : ℕ) (all rows : List Linear) → rows ≡ all → (s : State) → MeetsAll s all → MeetsAll (zero_between p p s) rows
+between_first p all rows is s m = subst (λ (z : List Linear). MeetsAll (zero_between p p s) z) (sym is) (subst (λ (t : State). MeetsAll t all) (sym (between_none p s)) m)
+
+-- and at last all that a row may have
+pub between_last : (p v : ℕ) (rows out all : List Linear) → VARIABLES ≤ v → Each IsRow rows → out ≡ rows → ((s : State) → MeetsAll s all → MeetsAll (zero_between p v s) rows) →
+    (s : State) → MeetsAll s all → MeetsAll (zero_from p s) out
+between_last p v rows out all le rs is so_far s m = subst (MeetsAll (zero_from p s)) (sym is) (between_met p v rows s le rs (so_far s m))

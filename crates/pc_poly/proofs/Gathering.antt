@@ -1,6 +1,6 @@
 -- Lists to which rows are added.
-use Rattle.std.proofs.Common.{◌≡◌, ◌∙◌, ℕ, ◌+◌, ◌<◌, ◌≤◌, Bool, true, false, cond, List, [], ◌∷◌, ◌++◌, length, drop, slice_get, Some, Result, Ok, Err, sym, ap, arith}
-use Rattle.std.specs.Prelude.{nat_lt, IfOk}
+use Rattle.std.proofs.Common.{◌≡◌, ◌∙◌, ℕ, ◌+◌, ◌<◌, ◌≤◌, Bool, true, false, cond, List, [], ◌∷◌, ◌++◌, length, drop, slice_get, Some, Result, Ok, Err, refl, sym, ap, arith}
+use Rattle.std.specs.Prelude.{nat_lt, IfOk, OkIff}
 use Rattle.std.specs.List.{AllByRecursion as Each}
 use Rattle.std.proofs.lemmas.Bool.Decides.{nat_tests}
 use Rattle.pc_rows.specs.declared.number.Past.{Past}
@@ -29,6 +29,11 @@ module _ (P : Linear → Type 0) where
   pub gathered_each : (rows more : List Linear) → Each P rows → Each P more → Each P (gathered rows more)
   gathered_each rows [] h g = h
   gathered_each rows (r ∷ more) h g = gathered_each (added rows r) more (added_each rows r h g.0) g.1
+
+-- a row that is computed in range is what it should be
+pub ok_is : {P : Type 0} (r : Result Linear Past) (v w : Linear) → OkIff r P v → v ≡ w → IfOk r (λ x. x ≡ w)
+ok_is (Ok x) v w h e = h.1 ∙ e
+ok_is (Err e) v w h f = tt
 
 -- one row more
 pub gathered_next : (rows more new goal : List Linear) (i : ℕ) (r : Linear) → slice_get more i ≡ Some r → new ≡ added rows r → gathered rows (drop i more) ≡ goal →

@@ -1,12 +1,26 @@
 -- Rows that are kept since others show them.
 use Rattle.std.proofs.Common.{◌≡◌, ◌∙◌, ℕ, ◌+◌, ◌<◌, ◌≤◌, List, [], ◌∷◌, ◌++◌, length, length-append, take, slice_get, Some, refl, sym, ap, subst, arith, inl, inr}
-use Rattle.std.specs.Prelude.{◌≢◌, ◌⊎◌}
+use Rattle.std.specs.Prelude.{◌≢◌, ◌⊎◌, Result, Ok}
 use Rattle.std.proofs.lemmas.List.{take_more}
 use Rattle.std.proofs.lemmas.Option.{slice_get_within, get_or_from_slice_get}
 use Rattle.pc_rows.specs.Linear.{Linear, State, Meets, MeetsAll}
+use Rattle.pc_rows.specs.Evidence.{Proof}
+use Rattle.pc_rows.specs.declared.rows.NoMemory.{NoMemory}
+use Rattle.pc_rows.proofs.Farkas.{shown_is_met}
 use Rattle.pc_rows.proofs.Meeting.{meets_left, meets_right, meets_join}
+use Rattle.pc_elim.specs.declared.decision.Answer.{Answer}
+use Rattle.pc_elim.specs.declared.decision.Answer.TheVariants.{Shown}
+use Rattle.pc_elim.specs.Deciding.{DecideIs}
+use Rattle.pc_entail.specs.Showing.{question}
 use Rattle.pc_poly.specs.Rows.{gathered, KeepsShown, IsKept}
 use Rattle.pc_poly.proofs.Gathering.{gathered_each}
+
+-- a row that is found to be shown is met
+pub found_met : (rows : List Linear) (r : Linear) (found : Result Answer NoMemory) (p : Proof) → DecideIs (question (rows ++ []) r) found → found ≡ Ok (Shown p) →
+    (s : State) → MeetsAll s rows → Meets s r
+found_met rows r found p h is s m =
+    let evidence = subst (DecideIs (question (rows ++ []) r)) is h in
+    shown_is_met (rows ++ []) r p s evidence.shows (meets_join s rows [] m tt)
 
 pub kept_none : (other : List Linear) → IsKept [] other []
 kept_none other = record { few = omega arith; all = λ e. refl; own = λ s h. tt; shown = λ s h. tt }

@@ -1,5 +1,5 @@
 -- Tests and assertions: what is left are the states that meet the rows of the value and those of the edge.
-use Rattle.std.proofs.Common.{◌≡◌, ◌+◌, ◌≤◌, List, length, Some, None, refl, sym, subst, ℤ, pos}
+use Rattle.std.proofs.Common.{◌≡◌, ◌∙◌, ◌+◌, ◌≤◌, List, length, Some, None, sym, ap, subst, pos}
 use Rattle.pc_rows.specs.Linear.{Linear, State, Meets, MeetsAll, coefficient}
 use Rattle.pc_rows.specs.Joins.{joined}
 use Rattle.pc_rows.proofs.Counting.{count_most}
@@ -24,3 +24,11 @@ pub tested_says : (p : Polyhedron) (own : List Linear) (v : Value) → IsTested 
 tested_says p own None h few = λ s m n. h s (gathered_each (Meets s) p.rows own m n)
 tested_says p own (Some q) h few =
     subst (IsBoth p.rows own) (sym h) (subst (IsBoth p.rows own) (sym (gathered_joined p.rows own few)) (joined_both p.rows own))
+
+-- ---- what the code has joined
+
+pub joined_is : (old own copied all : List Linear) → copied ≡ old → all ≡ gathered copied own → all ≡ gathered old own
+joined_is old own copied all same is = is ∙ ap (λ (z : List Linear). gathered z own) same
+
+pub none_tested : (p : Polyhedron) (own all : List Linear) → all ≡ gathered p.rows own → ((s : State) → MeetsAll s all → ⊥) → IsTested p own None
+none_tested p own all is h s m = h s (subst (MeetsAll s) (sym is) m)

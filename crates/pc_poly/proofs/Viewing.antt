@@ -1,6 +1,8 @@
 -- A view tells its value, and a value's list its states.
 use Rattle.std.proofs.Common.{◌≡◌, ◌∙◌, List, [], ◌∷◌, map, Some, None, ℤ, pos, negsuc, refl, sym, ap, subst, arith}
+use Rattle.std.specs.Prelude.{◌↔◌, Result, IfOk}
 use Rattle.std.proofs.lemmas.Int.{ints}
+use Rattle.std.proofs.lemmas.Result.{IfOk-weaker}
 use Rattle.pc_rows.specs.Linear.{Linear, State, MeetsAll}
 use Rattle.pc_rows.specs.Substitution.{never_row}
 use Rattle.pc_rows.proofs.Algebra.{same_row}
@@ -55,3 +57,8 @@ never_met s m = let first = m.0 in let v = value-constant (negsuc 0) s in omega 
 pub list_is_meant : ListIsMeant
 list_is_meant None s = ((λ h. absurd h), (λ m. never_met s m))
 list_is_meant (Some p) s = ((λ h. h), (λ m. m))
+
+pub list_of : {E : Type 0} (v : Value) (r : Result (List Linear) E) → IfOk r (λ rows. rows ≡ rows_of v) → IfOk r (λ rows. (s : State) → HasState v s ↔ MeetsAll s rows)
+list_of v r h =
+    IfOk-weaker r (λ rows. rows ≡ rows_of v) (λ rows. (s : State) → HasState v s ↔ MeetsAll s rows)
+    (λ rows is s. subst (λ (z : List Linear). HasState v s ↔ MeetsAll s z) (sym is) (list_is_meant v s)) h

@@ -1,15 +1,8 @@
 -- Rows after an assignment.
-use Rattle.std.specs.Prelude.{◌≡◌, ◌⊎◌, ℕ, ◌<◌, ℤ, pos, negsuc, neg_ℤ, ◌+ℤ◌, int_lt, if◌then◌else◌, List, Option, Some, slice_set, slice_index_or}
-use Rattle.pc_rows.specs.declared.row.TheConstants.{VARIABLES}
+use Rattle.std.specs.Prelude.{◌≡◌, ◌⊎◌, ℕ, ℤ, pos, negsuc, neg_ℤ, ◌+ℤ◌, int_lt, if◌then◌else◌, List, Option, Some, slice_set, slice_index_or}
 use Rattle.pc_rows.specs.Linear.{Linear, State, value, MeetsAll, Meets, coefficient, of_constant, with_coefficient, sum_of, difference_of, scaled_by}
-use Rattle.pc_rows.specs.Substitution.{IsNotBelow, IsNotAbove, IsEnd}
+use Rattle.pc_rows.specs.Substitution.{IsNotBelow, IsNotAbove}
 use Rattle.pc_poly.specs.declared.assignment.Assignment.{Assignment}
-
--- what the code keeps of an assignment x = form + [lo, hi]
-pub record IsAssignment (a : Assignment) : Type 0 where
-  pub variable : a.x < VARIABLES
-  pub low : IsEnd a.lo
-  pub high : IsEnd a.hi
 
 -- the assignment x = 0
 abbrev pub zeroing : ℕ → Assignment

@@ -4,12 +4,13 @@ ghost use Rattle.std.specs.Prelude.{◌≡◌, ◌<◌, ◌≤◌, [], true, pos
 ghost use Rattle.pc_language.specs.Ends.{end_of};
 ghost use Rattle.pc_rows.specs.declared.row.TheConstants.{VARIABLES};
 ghost use Rattle.pc_rows.specs.Linear.{State, MeetsAll, zero_from};
+ghost use Rattle.pc_rows.specs.Substitution.{IsEnd};
 ghost use Rattle.pc_flow.specs.Arc.{BoundsFit};
 ghost use Rattle.pc_flow.specs.Carry.{HasVariable};
 ghost use Rattle.pc_flow.specs.Walk.{Pass};
 ghost use Rattle.pc_flow.specs.declared.what.What.TheVariants.{Set};
 ghost use Rattle.pc_poly.specs.Assigning.{zeroing};
-ghost use Rattle.pc_poly.specs.Polyhedra.{HasState, IsTested, SaysEntered, SaysAfter};
+ghost use Rattle.pc_poly.specs.Polyhedra.{HasState, SaysTested, SaysEntered, SaysAfter};
 
 use crate::adding::{copied, gather};
 use crate::assignment::{Assignment, assigned, bounded};
@@ -18,8 +19,8 @@ use crate::polyhedron::Polyhedron;
 use pc_domain::NoMemory;
 use pc_entail::contradictory;
 use pc_flow::{Edge, What};
-use pc_language::{Bound, end_of};
-use pc_rows::{Row, Rows, VARIABLES};
+use pc_language::Bound;
+use pc_rows::{Number, Row, Rows, VARIABLES};
 use std::alloc::Global;
 
 /// What an edge makes of a polyhedron; None is nothing.
@@ -49,6 +50,8 @@ fn entered(alloc: Global, p: &Polyhedron, params: u32) -> Result<Option<Polyhedr
     for v in params..VARIABLES as u32 {
         rows = entered_at(alloc, &rows, v, p.hint)?;
     }
+    // it tells that no row is wider than there are variables
+    let _few = rows.len();
     Ok(Some(p.with(rows)))
 }
 
@@ -73,14 +76,15 @@ fn to_zero(alloc: Global, x: u32) -> Assignment
     Assignment {
         x,
         form: Row::of_constant(alloc, 0),
-        lo: Some(0),
-        hi: Some(0),
+        lo: Some(Number::new(0)),
+        hi: Some(Number::new(0)),
     }
 }
 
 /// The rows of a test or an assertion are joined. None where all are found to contradict each other.
 fn tested(alloc: Global, p: &Polyhedron, own: &Rows) -> Result<Option<Polyhedron>, NoMemory>
-    ensures { IfOk result (λ v. IsTested p.now own.now v) }
+    ensures states { IfOk result (λ v. (s : State) → MeetsAll s p.now.rows → MeetsAll s own.now → HasState v s) }
+    ensures view { IfOk result (λ v. SaysTested (Some p.now) own.now v) }
 {
     let mut rows = copied(&p.rows)?;
     gather(&mut rows, own)?;
@@ -116,9 +120,20 @@ fn set(
     let a = Assignment {
         x,
         form: form.copy(),
-        lo: end_of(lo),
-        hi: end_of(hi),
+        lo: end(lo),
+        hi: end(hi),
     };
     let rows = assigned(alloc, &p.rows, &a)?;
     Ok(Some(p.with(rows)))
+}
+
+/// The number at an end of a choice; None is an open end.
+fn end(bound: Bound) -> Option<Number>
+    requires { IsEnd (end_of bound) }
+    ensures { result ≡ end_of bound }
+{
+    match bound {
+        Bound::At(n) => Some(Number::new(n)),
+        Bound::Open => None,
+    }
 }

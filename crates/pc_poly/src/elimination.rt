@@ -1,11 +1,12 @@
 //! Rows from which a variable is eliminated by pairs.
 
-ghost use Rattle.std.specs.Prelude.{◌≡◌, ◌<◌, ◌∷◌, [], pos, ◌≤ℤ◌, IfOk, OnOk};
+ghost use Rattle.std.specs.Prelude.{◌≡◌, ◌<◌, ◌∷◌, [], true, pos, int_lt, IfOk, OnOk};
 ghost use Rattle.pc_rows.specs.declared.row.TheConstants.{VARIABLES};
 ghost use Rattle.pc_rows.specs.Linear.{coefficient};
 ghost use Rattle.pc_poly.specs.Rows.{Adds, Eliminates, weighed};
 
 use crate::adding::{add, add_fitting};
+use crate::numbers::{coefficient, is_negative, is_positive, is_without};
 use pc_domain::NoMemory;
 use pc_rows::{Past, Row, Rows};
 use std::alloc::Global;
@@ -40,7 +41,7 @@ fn add_without(out: &mut Rows, r: &Row, x: u32) -> Result<(), NoMemory>
     requires { x < VARIABLES }
     ensures { OnOk result (Adds x (r.now ∷ []) out.old out.new) }
 {
-    if r.coefficient(x) != 0 {
+    if !is_without(r, x) {
         return Ok(());
     }
     add(out, r.copy())
@@ -51,7 +52,7 @@ fn add_pairs(out: &mut Rows, rows: &Rows, p: &Row, x: u32) -> Result<(), NoMemor
     requires { x < VARIABLES }
     ensures { OnOk result (Adds x (p.now ∷ rows.now) out.old out.new) }
 {
-    if p.coefficient(x) <= 0 {
+    if !is_positive(p, x) {
         return Ok(());
     }
     for i in 0..rows.len() {
@@ -64,10 +65,10 @@ fn add_pairs(out: &mut Rows, rows: &Rows, p: &Row, x: u32) -> Result<(), NoMemor
 /// has no pair with it.
 fn add_pair(out: &mut Rows, p: &Row, n: &Row, x: u32) -> Result<(), NoMemory>
     requires variable { x < VARIABLES }
-    requires positive { pos 0 ≤ℤ coefficient p.now x }
+    requires positive { int_lt (pos 0) (coefficient p.now x) ≡ true }
     ensures { OnOk result (Adds x (p.now ∷ n.now ∷ []) out.old out.new) }
 {
-    if 0 <= n.coefficient(x) {
+    if !is_negative(n, x) {
         return Ok(());
     }
     add_fitting(out, weighed(p, n, x))
@@ -79,7 +80,7 @@ fn weighed(p: &Row, n: &Row, x: u32) -> Result<Row, Past>
     requires { x < VARIABLES }
     ensures { IfOk result (λ r. r ≡ weighed x p.now n.now) }
 {
-    let first = p.scaled(-n.coefficient(x))?;
-    let second = n.scaled(p.coefficient(x))?;
+    let first = p.times(coefficient(n, x).negated())?;
+    let second = n.times(coefficient(p, x))?;
     first.sum(&second)
 }

@@ -8,6 +8,7 @@ mod elimination;
 mod laws;
 mod limits;
 mod member;
+mod numbers;
 mod polyhedron;
 mod showing;
 
