@@ -17,7 +17,7 @@ use Rattle.pc_poly.specs.declared.assignment.Assignment.{Assignment}
 use Rattle.pc_poly.specs.Rows.{added, added_fitting, Eliminates}
 use Rattle.pc_poly.specs.Assigning.{zeroing, IsOnce, successor, Assigns, AddsAfter, MetAfter, factor, needed, replaced, low_row, high_row}
 use Rattle.pc_poly.proofs.Gathering.{added_each, fitting_each, ok_is}
-use Rattle.pc_poly.proofs.Eliminating.{value_free, met_at}
+use Rattle.pc_poly.proofs.Eliminating.{value_free, met_free}
 
 -- a variable that takes another value
 dot-taken : (cs s : List ℤ) (x : ℕ) (n : ℤ) → get_or (set s x n) x (pos 0) ≡ n → dot cs (set s x n) +ℤ get_or cs x (pos 0) *ℤ get_or s x (pos 0) ≡ dot cs s +ℤ get_or cs x (pos 0) *ℤ n
@@ -122,19 +122,24 @@ factor_zero a r h = by (int_lt (coefficient a.form a.x) (pos 0)) h
     by true e = omega (arith, ints)
     by false e = e
 
+-- a row without the variable stays as it is
+pub still_met : (a : Assignment) (r new : Linear) → new ≡ r → coefficient r a.x ≡ pos 0 → MetAfter a r new
+still_met a r new is none s c assigns m = subst (Meets (successor a s c)) (sym is) (met_free r s a.x (value a.form s +ℤ c) none m)
+
 -- ---- what is added
 
-module _ {P : Type 0} (a : Assignment) (n : ℤ) (r : Result Linear Past) (v : Linear) (has : a.x < VARIABLES) (without : coefficient a.form a.x ≡ pos 0) (exact : OkIff r P v) where
-  abbrev pub IsMetAfter : Linear → Type 0
-  IsMetAfter y = (s : State) (c : ℤ) → Assigns a s c → MeetsAll s [] → Meets (successor a s c) y
+-- whatever was chosen, the state after the assignment meets the row
+abbrev pub IsMetAfter : Assignment → Linear → Type 0
+IsMetAfter a y = (s : State) (c : ℤ) → Assigns a s c → MeetsAll s [] → Meets (successor a s c) y
 
-  pub fitting_low : a.lo ≡ Some n → v ≡ low_row a n → IfOk r IsMetAfter
+module _ (P : Type 0) (a : Assignment) (n : ℤ) (r : Result Linear Past) (v : Linear) (has : a.x < VARIABLES) (without : coefficient a.form a.x ≡ pos 0) (exact : OkIff r P v) where
+  pub fitting_low : a.lo ≡ Some n → v ≡ low_row a n → IfOk r (IsMetAfter a)
   fitting_low is row =
-      IfOk-weaker r (λ y. y ≡ low_row a n) IsMetAfter (λ y e s c assigns m. subst (Meets (successor a s c)) (sym e) (low_met a s c assigns n has without is)) (ok_is r v (low_row a n) exact row)
+      IfOk-weaker r (λ y. y ≡ low_row a n) (IsMetAfter a) (λ y e s c assigns m. subst (Meets (successor a s c)) (sym e) (low_met a s c assigns n has without is)) (ok_is P r v (low_row a n) exact row)
 
-  pub fitting_high : a.hi ≡ Some n → v ≡ high_row a n → IfOk r IsMetAfter
+  pub fitting_high : a.hi ≡ Some n → v ≡ high_row a n → IfOk r (IsMetAfter a)
   fitting_high is row =
-      IfOk-weaker r (λ y. y ≡ high_row a n) IsMetAfter (λ y e s c assigns m. subst (Meets (successor a s c)) (sym e) (high_met a s c assigns n has without is)) (ok_is r v (high_row a n) exact row)
+      IfOk-weaker r (λ y. y ≡ high_row a n) (IsMetAfter a) (λ y e s c assigns m. subst (Meets (successor a s c)) (sym e) (high_met a s c assigns n has without is)) (ok_is P r v (high_row a n) exact row)
 
 -- the row that was moved, where it fits
 pub moved_met : (a : Assignment) (r : Linear) (k end : ℤ) (moved : Result Linear Past) (new : Option Linear) → new ≡ result_ok moved → IfOk moved (λ y. y ≡ replaced a r k end) →

@@ -164,6 +164,7 @@ module _ (g : Flow) (views : List View) (graph : IsGraph g) (chain : IsChain g) 
           let same = chain.parameters in
           let none : g.variables - g.params ≡ 0 = omega arith in
           sym (ap (λ (n : ℕ). s ++ replicate n (pos 0)) none ∙ append-nil s)
+
       all : 0 + tests_count (drop 0 g.edges) ≤ ROWS
       all = subst (λ (z : List Arc). 0 + tests_count z ≤ ROWS) (sym edges_are) (let h = chain.few in omega arith)
 

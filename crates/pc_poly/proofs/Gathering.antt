@@ -31,9 +31,9 @@ module _ (P : Linear → Type 0) where
   gathered_each rows (r ∷ more) h g = gathered_each (added rows r) more (added_each rows r h g.0) g.1
 
 -- a row that is computed in range is what it should be
-pub ok_is : {P : Type 0} (r : Result Linear Past) (v w : Linear) → OkIff r P v → v ≡ w → IfOk r (λ x. x ≡ w)
-ok_is (Ok x) v w h e = h.1 ∙ e
-ok_is (Err e) v w h f = tt
+pub ok_is : (P : Type 0) (r : Result Linear Past) (v w : Linear) → OkIff r P v → v ≡ w → IfOk r (λ x. x ≡ w)
+ok_is P (Ok x) v w h e = h.1 ∙ e
+ok_is P (Err e) v w h f = tt
 
 -- one row more
 pub gathered_next : (rows more new goal : List Linear) (i : ℕ) (r : Linear) → slice_get more i ≡ Some r → new ≡ added rows r → gathered rows (drop i more) ≡ goal →

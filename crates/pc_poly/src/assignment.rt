@@ -2,12 +2,12 @@
 
 ghost use Rattle.std.specs.Prelude.{◌≡◌, ◌<◌, ◌∷◌, [], pos, IfOk, OnOk, IfSome};
 ghost use Rattle.pc_rows.specs.declared.row.TheConstants.{VARIABLES};
-ghost use Rattle.pc_rows.specs.Linear.{coefficient};
+ghost use Rattle.pc_rows.specs.Linear.{IsRow, coefficient, difference_of, scaled_by};
 ghost use Rattle.pc_poly.specs.Assigning.{IsOnce, AddsAfter, MetAfter, factor, needed, replaced};
 
 use crate::adding::{add, add_fitting};
 use crate::elimination::eliminated;
-use crate::numbers::{coefficient, constant, is_negative, with};
+use crate::numbers::{coefficient, constant, with};
 use pc_domain::NoMemory;
 use pc_rows::{Number, Past, Row, Rows};
 use std::alloc::Global;
@@ -55,7 +55,10 @@ fn add_low(alloc: Global, out: &mut Rows, a: &Assignment) -> Result<(), NoMemory
     ensures { OnOk result (AddsAfter a.now [] out.old out.new) }
 {
     match a.lo {
-        Some(lo) => add_fitting(out, constant(alloc, lo.negated()).with(a.x, 1).minus(&a.form)),
+        Some(lo) => add_fitting(
+            out,
+            constant(alloc, lo.negated()).with(a.x, 1).minus(&a.form),
+        ),
         None => Ok(()),
     }
 }
@@ -116,10 +119,12 @@ fn replaced(alloc: Global, r: &Row, a: &Assignment) -> Option<Row>
 /// How often the row has the new variable: as often as the old one, and with the other sign where the form has it so.
 fn factor(r: &Row, a: &Assignment) -> Number
     requires { a.now.x < VARIABLES }
-    ensures { result ≡ factor a.now r.now }
+    ensures value { result ≡ factor a.now r.now }
+    ensures row { IsRow r.now }
+    ensures form { IsRow a.now.form }
 {
     let c = coefficient(r, a.x);
-    if is_negative(&a.form, a.x) {
+    if coefficient(&a.form, a.x).is_below(Number::new(0)) {
         c.negated()
     } else {
         c
@@ -142,7 +147,14 @@ fn moved(alloc: Global, r: &Row, a: &Assignment, k: Number, end: Number) -> Resu
     requires { a.now.x < VARIABLES }
     ensures { IfOk result (λ new. new ≡ replaced a.now r.now k end) }
 {
-    let rest = a.form.with(a.x, 0);
-    let moved = with(r, a.x, k).minus(&rest.times(k)?)?;
-    moved.minus(&constant(alloc, end).times(k)?)
+    let rest = with(&a.form, a.x, Number::new(0));
+    let moved = less(&with(r, a.x, k), k, &rest)?;
+    less(&moved, k, &constant(alloc, end))
+}
+
+/// The row less `k` times another one.
+fn less(r: &Row, k: Number, other: &Row) -> Result<Row, Past>
+    ensures { IfOk result (λ new. new ≡ difference_of r.now (scaled_by k other.now)) }
+{
+    r.minus(&other.times(k)?)
 }

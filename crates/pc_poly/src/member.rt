@@ -100,7 +100,12 @@ impl Poly {
 }
 
 /// A polyhedron widened by a newer one, or None where the newer one is found to be in it.
-fn wider(alloc: Global, a: &Polyhedron, b: &Polyhedron, round: u32) -> Result<Option<Poly>, NoMemory>
+fn wider(
+    alloc: Global,
+    a: &Polyhedron,
+    b: &Polyhedron,
+    round: u32,
+) -> Result<Option<Poly>, NoMemory>
     ensures states { IfOk result (λ o. MatchOption o ((s : State) → MeetsAll s b.now.rows → MeetsAll s a.now.rows) (λ v. (s : State) → MeetsAll s a.now.rows ⊎ MeetsAll s b.now.rows → HasState v s)) }
     ensures fewer { IfOk result (λ o. MatchOption o (Unit {0}) (λ v. KEEPING_ROUND ≤ round → parts_of v < parts_of (Some a.now))) }
 {

@@ -2,7 +2,7 @@
 
 ghost use Rattle.std.specs.Prelude.{◌≡◌, ◌<◌, pos, int_lt};
 ghost use Rattle.pc_rows.specs.declared.row.TheConstants.{VARIABLES};
-ghost use Rattle.pc_rows.specs.Linear.{coefficient, of_constant, with_coefficient, is_zero};
+ghost use Rattle.pc_rows.specs.Linear.{IsRow, coefficient, of_constant, with_coefficient, is_zero};
 
 use pc_rows::{Number, Row};
 use std::alloc::Global;
@@ -10,7 +10,8 @@ use std::alloc::Global;
 /// The coefficient at a variable.
 pub(crate) fn coefficient(r: &Row, x: u32) -> Number
     requires { x < VARIABLES }
-    ensures { result ≡ coefficient r.now x }
+    ensures value { result ≡ coefficient r.now x }
+    ensures row { IsRow r.now }
 {
     Number::new(r.coefficient(x))
 }

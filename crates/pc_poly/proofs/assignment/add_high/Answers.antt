@@ -8,5 +8,5 @@ returns-in-Some c =
     let a = c.args.a.now in
     on_ok_weaker c.add_fitting.result
     (λ is. adds_after_fitting a [] c.args.out.now c.add_fitting.new.rows c.sum-in-Some.result is
-    (fitting_high a c.in-Some.hi c.sum-in-Some.result _ c.requires.variable c.requires.without c.sum-in-Some.ensures c.in-Some.is (search rules)))
+    (fitting_high _ a c.in-Some.hi c.sum-in-Some.result _ c.requires.variable c.requires.without c.sum-in-Some.ensures c.in-Some.is (search rules)))
     c.add_fitting.ensures

@@ -8,5 +8,5 @@ returns-in-Some c =
     let a = c.args.a.now in
     on_ok_weaker c.add_fitting.result
     (λ is. adds_after_fitting a [] c.args.out.now c.add_fitting.new.rows c.minus-in-Some.result is
-    (fitting_low a c.in-Some.lo c.minus-in-Some.result _ c.requires.variable c.requires.without c.minus-in-Some.ensures c.in-Some.is (search rules)))
+    (fitting_low _ a c.in-Some.lo c.minus-in-Some.result _ c.requires.variable c.requires.without c.minus-in-Some.ensures c.in-Some.is (search rules)))
     c.add_fitting.ensures

@@ -15,4 +15,4 @@ loop-v-preserved c = record {
 }
 
 pub returns-clause-states : goal.returns-clause-states
-returns-clause-states c = between_last c.args.params c.loop-v.v c.loop-v.rows c.with.result.rows c.args.p.now.rows c.loop-v-test.false c.len.ensures.rows (ap (λ p. p.rows) c.with.ensures) c.loop-v.invariant.states
+returns-clause-states c = between_last c.args.params c.loop-v.v c.loop-v.rows c.with.result.rows c.args.p.now.rows c.loop-v-test.false c.len-few.ensures.rows (ap (λ p. p.rows) c.with.ensures) c.loop-v.invariant.states
