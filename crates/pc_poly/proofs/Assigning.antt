@@ -1,14 +1,14 @@
 -- Rows after an assignment are met by the states after it.
-use Rattle.std.proofs.Common.{◌≡◌, ◌∙◌, ℕ, zero, suc, ◌<◌, List, [], ◌∷◌, length, get_or, set, slice_get, Some, Option, ℤ, pos, negsuc, ◌+ℤ◌, ◌-ℤ◌, ◌*ℤ◌, neg_ℤ, ◌≤ℤ◌, refl, sym, ap, subst, arith, inl, inr, Bool, true, false, cond}
-use Rattle.std.specs.Prelude.{◌⊎◌, int_lt, IfOk, IfSome, OkIff, Result, Ok, Err}
+use Rattle.std.proofs.Common.{◌≡◌, ◌∙◌, ℕ, zero, suc, ◌<◌, List, [], ◌∷◌, length, get_or, set, Some, Option, ℤ, pos, negsuc, ◌+ℤ◌, ◌-ℤ◌, ◌*ℤ◌, neg_ℤ, ◌≤ℤ◌, refl, sym, ap, subst, arith, inl, inr, Bool, true, false, cond}
+use Rattle.std.specs.Prelude.{int_lt, IfOk, IfSome, OkIff, Result, Ok, Err}
 use Rattle.std.specs.Result.{result_ok}
 use Rattle.std.proofs.lemmas.Int.{ints}
 use Rattle.std.proofs.lemmas.List.{length-replicate}
 use Rattle.std.proofs.lemmas.Result.{IfOk-weaker}
-use Rattle.std.proofs.Math.IntN.{zero-*ℤ, *ℤ-zero}
+use Rattle.std.proofs.Math.IntN.{zero-*ℤ}
 use Rattle.pc_rows.specs.declared.number.Past.{Past}
 use Rattle.pc_rows.specs.declared.row.TheConstants.{VARIABLES}
-use Rattle.pc_rows.specs.Linear.{Linear, IsRow, State, dot, value, Meets, MeetsAll, coefficient, of_constant, with_coefficient, difference_of, scaled_by}
+use Rattle.pc_rows.specs.Linear.{Linear, State, dot, value, Meets, MeetsAll, coefficient, of_constant, with_coefficient, difference_of, scaled_by}
 use Rattle.pc_rows.specs.Substitution.{IsNotBelow, IsNotAbove}
 use Rattle.pc_rows.proofs.Algebra.{get_or-zeros}
 use Rattle.pc_rows.proofs.Ring.{mul_add, mul_comm, mul_le, mul_neg, mul_neg_left, le_refl_z}

@@ -1,7 +1,7 @@
 -- States whose variables become 0, one after the other.
 use Rattle.std.proofs.Common.{◌≡◌, ℕ, zero, suc, ◌+◌, ◌≤◌, List, [], ◌∷◌, length, set, ℤ, pos, ◌+ℤ◌, ◌*ℤ◌, ◌≤ℤ◌, refl, sym, ap, subst, arith}
 use Rattle.std.specs.List.{AllByRecursion as Each}
-use Rattle.pc_rows.specs.Linear.{Linear, IsRow, State, dot, value, MeetsAll, zero_from}
+use Rattle.pc_rows.specs.Linear.{Linear, IsRow, State, dot, MeetsAll, zero_from}
 use Rattle.pc_rows.specs.declared.row.TheConstants.{VARIABLES}
 
 -- zeros at the places from p on that are below v

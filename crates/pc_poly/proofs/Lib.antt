@@ -5,4 +5,5 @@ pub mod Entering
 pub mod Keeping
 pub mod Viewing
 pub mod Testing
+pub mod Passing
 pub mod Chaining

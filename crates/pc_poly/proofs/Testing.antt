@@ -1,5 +1,5 @@
 -- Tests and assertions: what is left are the states that meet the rows of the value and those of the edge.
-use Rattle.std.proofs.Common.{◌≡◌, ◌∙◌, ◌+◌, ◌≤◌, List, length, Some, None, sym, ap, subst, pos}
+use Rattle.std.proofs.Common.{◌≡◌, ◌∙◌, List, Some, None, sym, ap, subst, pos}
 use Rattle.pc_rows.specs.Linear.{Linear, State, Meets, MeetsAll, coefficient}
 use Rattle.pc_rows.specs.Joins.{joined}
 use Rattle.pc_rows.proofs.Counting.{count_most}

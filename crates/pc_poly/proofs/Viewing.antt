@@ -1,5 +1,5 @@
 -- A view tells its value, and a value's list its states.
-use Rattle.std.proofs.Common.{◌≡◌, ◌∙◌, List, [], ◌∷◌, map, Some, None, ℤ, pos, negsuc, refl, sym, ap, subst, arith}
+use Rattle.std.proofs.Common.{◌≡◌, ◌∙◌, List, [], ◌∷◌, map, Some, None, ℤ, negsuc, refl, sym, ap, subst, arith}
 use Rattle.std.specs.Prelude.{◌↔◌, Result, IfOk}
 use Rattle.std.proofs.lemmas.Int.{ints}
 use Rattle.std.proofs.lemmas.Result.{IfOk-weaker}
@@ -8,7 +8,6 @@ use Rattle.pc_rows.specs.Substitution.{never_row}
 use Rattle.pc_rows.proofs.Algebra.{same_row}
 use Rattle.pc_rows.proofs.Values.{value-constant}
 use Rattle.pc_flow.specs.declared.what.What.{What}
-use Rattle.pc_domain.specs.View.{View}
 use Rattle.pc_poly.specs.Polyhedra.{Value, HasState, rows_of, SaysAfter, IsJoined}
 use Rattle.pc_poly.specs.Views.{numbers_of, integer_of, row_of, poly_view, poly_of, SaysJoined}
 use Rattle.pc_poly.specs.Laws.{ViewsTell, ListIsMeant}

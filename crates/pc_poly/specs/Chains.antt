@@ -1,7 +1,7 @@
 -- Graphs that are one chain of tests and assertions.
 use Rattle.std.specs.Prelude.{◌≡◌, ℕ, ◌+◌, ◌≤◌, List, [], ◌∷◌, drop, length}
 use Rattle.pc_rows.specs.declared.rows.TheConstants.{ROWS}
-use Rattle.pc_rows.specs.Linear.{Linear, State, MeetsAll}
+use Rattle.pc_rows.specs.Linear.{Linear}
 use Rattle.pc_flow.specs.declared.what.What.{What}
 use Rattle.pc_flow.specs.declared.what.What.TheVariants.{Enter, Test, Set, Check}
 use Rattle.pc_flow.specs.Arc.{Arc}

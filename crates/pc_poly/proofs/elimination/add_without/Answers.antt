@@ -1,6 +1,5 @@
-use Rattle.std.proofs.Common.{◌≡◌, ◌∷◌, [], pos, rules}
+use Rattle.std.proofs.Common.{◌∷◌, [], rules}
 use Rattle.std.proofs.lemmas.Result.{on_ok_weaker}
-use Rattle.pc_rows.specs.Linear.{coefficient, is_zero}
 use Rattle.pc_poly.proofs.Eliminating.{adds_row, without_met}
 use Rattle.pc_poly.proofs.elimination.add_without.Goals as goal
 
