@@ -1,5 +1,5 @@
 -- What boxes know at the points of a graph is what they know of the program.
-use Rattle.std.proofs.Common.{◌≡◌, ◌∙◌, ℕ, ◌<◌, List, length, map, sym, ap, subst, Some, None, slice_get, arith}
+use Rattle.std.proofs.Common.{◌≡◌, ◌∙◌, ℕ, ◌<◌, List, length, map, sym, ap, subst, Some, None, slice_get, arith, Result, Ok, Err, IfOk}
 use Rattle.std.specs.Option.{option_map}
 use Rattle.std.proofs.lemmas.List.{length-map}
 use Rattle.std.proofs.lemmas.Option.{slice_get-map, slice_get-get_or}
@@ -20,6 +20,7 @@ use Rattle.pc_box.specs.Laws.{IsTheBoxAt}
 use Rattle.pc_box.specs.Views.{view_of, box_says}
 use Rattle.pc_box.proofs.Answering.{fold_is_box_at, rows_are_box_rows}
 use Rattle.pc_facts.specs.Facts.{OfFold, IsFacts}
+use Rattle.pc_app.specs.declared.domains.FactsDomain.{FactsDomain}
 use Rattle.pc_app.specs.declared.domains.FactsDomain.TheVariants as domains
 use Rattle.pc_app.specs.Known.{AreFacts}
 
@@ -46,7 +47,7 @@ module _ (g : Flow) (rows : List (List Linear)) (is : IsGraph g) (none : NoHeads
       let told = length-map (boxes_of g) rows_of in
       same_items rows (map rows_of (boxes_of g)) (omega arith) (λ p lt. rows_at p (omega arith))
 
-pub boxes_are_facts : (p : Program) (text : Bytes) → IsFacts boxes (graph p) p.names.names text → AreFacts domains.Boxes p text
+boxes_are_facts : (p : Program) (text : Bytes) → IsFacts boxes (graph p) p.names.names text → AreFacts domains.Boxes p text
 boxes_are_facts p text is = record {
   rows = is.rows;
   known = record {
@@ -56,3 +57,8 @@ boxes_are_facts p text is = record {
   };
   printed = is.printed;
 }
+
+-- what is told of the graph of a program
+pub facts_of_boxes : {E : Type 0} (domain : FactsDomain) (p : Program) (g : Flow) (r : Result Bytes E) → g ≡ graph p → IfOk r (IsFacts boxes g p.names.names) → IfOk r (AreFacts domain p)
+facts_of_boxes domains.Boxes p g (Ok text) same is = boxes_are_facts p text (subst (λ (z : Flow). IsFacts boxes z p.names.names text) same is)
+facts_of_boxes domains.Boxes p g (Err e) same is = tt
