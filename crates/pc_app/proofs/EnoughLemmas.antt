@@ -1,5 +1,5 @@
 -- What a domain finds to be enough for a graph is enough for the program.
-use Rattle.std.proofs.Common.{ℕ, List, [], ◌∷◌, length, slice_get, arith}
+use Rattle.std.proofs.Common.{◌≡◌, ℕ, List, [], ◌∷◌, length, slice_get, arith, subst, Result, Ok, Err, IfOk}
 use Rattle.std.specs.List.{AllByRecursion as Each}
 use Rattle.pc_text.specs.Bytes.{Bytes}
 use Rattle.pc_rows.proofs.First.{zero_from_all}
@@ -44,7 +44,7 @@ enough_of d domain p text is weak = record {
   printed = is.printed;
 }
 
-pub rows_are_enough : (p : Program) (text : Bytes) → IsQuick needs (graph p) p.names.names text → AreEnough domains.Rows p text
+rows_are_enough : (p : Program) (text : Bytes) → IsQuick needs (graph p) p.names.names text → AreEnough domains.Rows p text
 rows_are_enough p text is = enough_of needs domains.Rows p text is
     (λ free tame s entry m.
     let none = loop_free_graphs p free in
@@ -66,10 +66,20 @@ exact_edges g [] straight one tame = tt
 exact_edges g (e ∷ es) straight one tame =
     (record { straight = straight.0; one = one.0; small = small_numbers e.what tame.0 }, exact_edges g es straight.1 one.1 tame.1)
 
-pub boxes_are_enough : (p : Program) (text : Bytes) → IsQuick boxes (graph p) p.names.names text → AreEnough domains.Boxes p text
+boxes_are_enough : (p : Program) (text : Bytes) → IsQuick boxes (graph p) p.names.names text → AreEnough domains.Boxes p text
 boxes_are_enough p text is = enough_of boxes domains.Boxes p text is
     (λ one tame s entry safe.
     let none = loop_free_graphs p (straight_is_loop_free p tame.straight) in
     let fold = is.suffice.folded none in
     let edges = exact_edges (graph p) (graph p).edges (straight_graphs p tame.straight) one tame.tame.edges in
     (is.same s entry).1 ((boxes_back_are_exact (graph p) fold.0 is.rows s (graph_kept p) none edges fold.1 fold.2 entry).1 ((steps_correspond p s entry).safe.0 safe)))
+
+-- what is told of the graph of a program
+module _ {E : Type 0} (p : Program) (g : Flow) (same : g ≡ graph p) where
+  pub enough_by_rows : (r : Result Bytes E) → IfOk r (IsQuick needs g p.names.names) → IfOk r (AreEnough domains.Rows p)
+  enough_by_rows (Ok text) is = rows_are_enough p text (subst (λ (z : Flow). IsQuick needs z p.names.names text) same is)
+  enough_by_rows (Err e) is = tt
+
+  pub enough_by_boxes : (r : Result Bytes E) → IfOk r (IsQuick boxes g p.names.names) → IfOk r (AreEnough domains.Boxes p)
+  enough_by_boxes (Ok text) is = boxes_are_enough p text (subst (λ (z : Flow). IsQuick boxes z p.names.names text) same is)
+  enough_by_boxes (Err e) is = tt

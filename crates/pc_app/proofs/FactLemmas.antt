@@ -1,5 +1,5 @@
 -- What domains know at the points of a graph is what they know of the program.
-use Rattle.std.proofs.Common.{◌≡◌, ◌∙◌, ℕ, ◌<◌, List, length, map, sym, ap, subst, Some, None, slice_get, arith}
+use Rattle.std.proofs.Common.{◌≡◌, ◌∙◌, ℕ, ◌<◌, List, length, map, sym, ap, subst, Some, None, slice_get, arith, Result, Ok, Err, IfOk}
 use Rattle.std.specs.Option.{option_map}
 use Rattle.std.proofs.lemmas.List.{length-map}
 use Rattle.std.proofs.lemmas.Option.{slice_get-map, slice_get-get_or, slice_get_within}
@@ -52,7 +52,7 @@ module _ (g : Flow) (rows : List (List Linear)) (is : IsGraph g) (none : NoHeads
       let told = length-map (boxes_of g) rows_of in
       same_items rows (map rows_of (boxes_of g)) (omega arith) (λ p lt. rows_at p (omega arith))
 
-pub boxes_are_facts : (p : Program) (text : Bytes) → IsFacts boxes (graph p) p.names.names text → AreFacts domains.Boxes p text
+boxes_are_facts : (p : Program) (text : Bytes) → IsFacts boxes (graph p) p.names.names text → AreFacts domains.Boxes p text
 boxes_are_facts p text is = record {
   rows = is.rows;
   known = record {
@@ -72,7 +72,7 @@ module _ (p : Program) (rows : List (List Linear)) (fold : OfFold poly_says (gra
       let same : e.2.0 ≡ told = (let here = e.2.1 in cc) in
       chains_are_exact (graph p) fold.views q e.0 told (graph_kept p) (checks_are_chains p checks) fold.fold e.1 (subst (poly_says.rows e.0) same e.2.2)
 
-pub polyhedra_are_facts : (p : Program) (text : Bytes) → IsFacts polyhedra (graph p) p.names.names text → AreFacts domains.Polyhedra p text
+polyhedra_are_facts : (p : Program) (text : Bytes) → IsFacts polyhedra (graph p) p.names.names text → AreFacts domains.Polyhedra p text
 polyhedra_are_facts p text is = record {
   rows = is.rows;
   known = record {
@@ -82,3 +82,13 @@ polyhedra_are_facts p text is = record {
   };
   printed = is.printed;
 }
+
+-- what is told of the graph of a program
+module _ {E : Type 0} (p : Program) (g : Flow) (same : g ≡ graph p) where
+  pub facts_of_boxes : (r : Result Bytes E) → IfOk r (IsFacts boxes g p.names.names) → IfOk r (AreFacts domains.Boxes p)
+  facts_of_boxes (Ok text) is = boxes_are_facts p text (subst (λ (z : Flow). IsFacts boxes z p.names.names text) same is)
+  facts_of_boxes (Err e) is = tt
+
+  pub facts_of_polyhedra : (r : Result Bytes E) → IfOk r (IsFacts polyhedra g p.names.names) → IfOk r (AreFacts domains.Polyhedra p)
+  facts_of_polyhedra (Ok text) is = polyhedra_are_facts p text (subst (λ (z : Flow). IsFacts polyhedra z p.names.names text) same is)
+  facts_of_polyhedra (Err e) is = tt

@@ -1,7 +1,9 @@
 //! What the words `facts` are answered: what a domain knows at each point.
 
 ghost use Rattle.std.specs.Prelude.{◌≡◌, ℕ, List, IfOk};
-ghost use Rattle.pc_graph.specs.Lowering.{graph};
+ghost use Rattle.pc_box.specs.contracts.member.Box16Forward.TheImpl.{ghosts as boxes};
+ghost use Rattle.pc_poly.specs.contracts.member.PolyForward.TheImpl.{ghosts as polyhedra};
+ghost use Rattle.pc_facts.specs.Facts.{IsFacts};
 ghost use Rattle.pc_app.specs.Known.{AreFacts};
 ghost use Rattle.pc_app.specs.Reading.{OrderIs};
 ghost use Rattle.pc_words.specs.Words.{Facts};
@@ -16,7 +18,7 @@ use pc_graph::lower;
 use pc_poly::Poly;
 use pc_ports::Store;
 use pc_program::Program;
-use pc_text::{NoMemory, Text};
+use pc_text::{Names, NoMemory, Text};
 use pc_words::FactsDomain;
 use std::alloc::Global;
 
@@ -43,23 +45,21 @@ fn facts_of(alloc: Global, domain: FactsDomain, program: &Program) -> Result<Tex
 {
     let graph = lower(alloc, program)?;
     match domain {
-        FactsDomain::Boxes => boxes_of(alloc, program, &graph),
-        FactsDomain::Polyhedra => polyhedra_of(alloc, program, &graph),
+        FactsDomain::Boxes => boxes_of(alloc, &graph, &program.names),
+        FactsDomain::Polyhedra => polyhedra_of(alloc, &graph, &program.names),
     }
 }
 
-/// What boxes know at each point of a program with its graph.
-fn boxes_of(alloc: Global, program: &Program, g: &Graph) -> Result<Text, NoMemory>
-    requires { g.now ≡ graph program.now }
-    ensures { IfOk result (AreFacts FactsDomain.Boxes program.now) }
+/// What boxes know at each point of a graph.
+fn boxes_of(alloc: Global, g: &Graph, names: &Names) -> Result<Text, NoMemory>
+    ensures { IfOk result (IsFacts boxes g.now names.now.names) }
 {
-    show_facts::<Box16>(alloc, g, &program.names)
+    show_facts::<Box16>(alloc, g, names)
 }
 
-/// What polyhedra know at each point of a program with its graph.
-fn polyhedra_of(alloc: Global, program: &Program, g: &Graph) -> Result<Text, NoMemory>
-    requires { g.now ≡ graph program.now }
-    ensures { IfOk result (AreFacts FactsDomain.Polyhedra program.now) }
+/// What polyhedra know at each point of a graph.
+fn polyhedra_of(alloc: Global, g: &Graph, names: &Names) -> Result<Text, NoMemory>
+    ensures { IfOk result (IsFacts polyhedra g.now names.now.names) }
 {
-    show_facts::<Poly>(alloc, g, &program.names)
+    show_facts::<Poly>(alloc, g, names)
 }

@@ -1,11 +1,12 @@
 //! What the words `quick` are answered: the condition that a domain finds going back.
 
-ghost use Rattle.std.specs.Prelude.{◌≡◌, ℕ, List, IfOk};
-ghost use Rattle.pc_graph.specs.Lowering.{graph};
+ghost use Rattle.std.specs.Prelude.{◌≡◌, ◌≤◌, ℕ, List, length, IfOk};
+ghost use Rattle.pc_back.specs.contracts.member.NeedBackward.TheImpl.{ghosts as needs};
+ghost use Rattle.pc_box.specs.contracts.backward.Box16Backward.TheImpl.{ghosts as boxes};
+ghost use Rattle.pc_quick.specs.Quick.{IsQuick};
 ghost use Rattle.pc_app.specs.Enough.{AreEnough};
 ghost use Rattle.pc_app.specs.Reading.{OrderIs};
 ghost use Rattle.pc_words.specs.Words.{Quick};
-ghost use Rattle.pc_words.specs.declared.domains.QuickDomain.TheVariants.{Rows, Boxes};
 
 use crate::answer::{Answer, Stop};
 use crate::files::source_in;
@@ -17,7 +18,7 @@ use pc_graph::lower;
 use pc_ports::Store;
 use pc_program::Program;
 use pc_quick::show_quick;
-use pc_text::{NoMemory, Text};
+use pc_text::{Names, NoMemory, Text};
 use pc_words::QuickDomain;
 use std::alloc::Global;
 
@@ -44,23 +45,23 @@ fn condition_of(alloc: Global, domain: QuickDomain, program: &Program) -> Result
 {
     let graph = lower(alloc, program)?;
     match domain {
-        QuickDomain::Rows => by_rows(alloc, program, &graph),
-        QuickDomain::Boxes => by_boxes(alloc, program, &graph),
+        QuickDomain::Rows => by_rows(alloc, &graph, &program.names),
+        QuickDomain::Boxes => by_boxes(alloc, &graph, &program.names),
     }
 }
 
-/// The condition that rows find, for a program with its graph.
-fn by_rows(alloc: Global, program: &Program, g: &Graph) -> Result<Text, NoMemory>
-    requires { g.now ≡ graph program.now }
-    ensures { IfOk result (AreEnough Rows program.now) }
+/// The condition that rows find for a graph.
+fn by_rows(alloc: Global, g: &Graph, names: &Names) -> Result<Text, NoMemory>
+    requires { g.now.params ≤ length names.now.names }
+    ensures { IfOk result (IsQuick needs g.now names.now.names) }
 {
-    show_quick::<Need>(alloc, g, &program.names)
+    show_quick::<Need>(alloc, g, names)
 }
 
-/// The condition that boxes find, for a program with its graph.
-fn by_boxes(alloc: Global, program: &Program, g: &Graph) -> Result<Text, NoMemory>
-    requires { g.now ≡ graph program.now }
-    ensures { IfOk result (AreEnough Boxes program.now) }
+/// The condition that boxes find for a graph.
+fn by_boxes(alloc: Global, g: &Graph, names: &Names) -> Result<Text, NoMemory>
+    requires { g.now.params ≤ length names.now.names }
+    ensures { IfOk result (IsQuick boxes g.now names.now.names) }
 {
-    show_quick::<Box16>(alloc, g, &program.names)
+    show_quick::<Box16>(alloc, g, names)
 }
