@@ -1,6 +1,6 @@
 -- The condition of a line is met exactly where the rows are.
-use Rattle.std.proofs.Common.{◌≡◌, ◌∙◌, ℕ, ◌≤◌, ℤ, pos, ◌≤ℤ◌, Bool, true, false, cond, List, [], ◌∷◌, length, map, refl, sym, ap, subst, arith, inl, inr}
-use Rattle.std.specs.Prelude.{◌↔◌, ◌×◌, int_lt, All}
+use Rattle.std.proofs.Common.{◌≡◌, ◌∙◌, ℕ, ◌≤◌, ℤ, pos, ◌≤ℤ◌, Bool, true, false, cond, List, [], ◌∷◌, length, map, refl, sym, ap, subst, arith, inl, inr, Result, Ok, Err, IfOk}
+use Rattle.std.specs.Prelude.{◌↔◌, int_lt, All}
 use Rattle.std.specs.List.{AllByRecursion as Each}
 use Rattle.std.proofs.lemmas.Bool.{and_parts}
 use Rattle.std.proofs.lemmas.Int.{ints}
@@ -41,7 +41,7 @@ false_met (r ∷ []) s e m = never_met r s e m.0
 false_met (r ∷ q ∷ rows) s e m = absurd (cc)
 
 -- a condition of rows is met exactly where they are
-pub met_alternatives : (rows : List Linear) (s : State) → MeetsSome s (alternatives rows) ↔ MeetsAll s rows
+met_alternatives : (rows : List Linear) (s : State) → MeetsSome s (alternatives rows) ↔ MeetsAll s rows
 met_alternatives rows s = by (is_false rows) refl
   where
     by : (b : Bool) → is_false rows ≡ b → MeetsSome s (cond b [] (rows ∷ [])) ↔ MeetsAll s rows
@@ -52,9 +52,13 @@ met_alternatives rows s = by (is_false rows) refl
         one (inl m) = m
         one (inr m) = absurd m
 
-pub over_are_over : (n : ℕ) (rows : List Linear) → Each (IsOver n) (over_parameters n rows)
+over_are_over : (n : ℕ) (rows : List Linear) → Each (IsOver n) (over_parameters n rows)
 over_are_over n [] = tt
 over_are_over n (r ∷ rows) = (first_is_over n r, over_are_over n rows)
+
+pub over_names : (n m : ℕ) (rows : List Linear) → n ≤ m → Each (IsOver m) (over_parameters n rows)
+over_names n m [] le = tt
+over_names n m (r ∷ rows) le = ((λ v h. first_is_over n r v (omega arith)), over_names n m rows le)
 
 few : (rows : List Linear) → length (alternatives rows) ≤ 1
 few rows = by (is_false rows)
@@ -68,7 +72,7 @@ over n rows h = by (is_false rows)
   where
     by : (b : Bool) → Each (All (IsOver n)) (cond b [] (rows ∷ []))
     by true = tt
-    by false = (All-from_recursion rows h, tt)
+    by false = (All-from_recursion (IsOver n) rows h, tt)
 
 pub quick_is : {V : Type 0} (d : Ghosts V) (g : Flow) (names : List Bytes) (rows : List Linear) (text : Bytes) → Suffice d g rows →
     text ≡ condition_text names (alternatives (over_parameters g.params rows)) → IsQuick d g names text
@@ -79,7 +83,12 @@ quick_is d g names rows text suffice printed =
       suffice = suffice;
       condition = alternatives mine;
       one = few mine;
-      parameters = All-from_recursion (alternatives mine) (over g.params mine (over_are_over g.params rows));
+      parameters = All-from_recursion (All (IsOver g.params)) (alternatives mine) (over g.params mine (over_are_over g.params rows));
       same = λ s entry. let m = met_alternatives mine s in (λ h. to_rows g.params s entry rows (m.0 h), λ h. m.1 (from_rows g.params s entry rows h));
       printed = printed;
     }
+
+pub quick_unless : {V E : Type 0} (d : Ghosts V) (g : Flow) (names : List Bytes) (rows over : List Linear) (r : Result Bytes E) → Suffice d g rows →
+    over ≡ over_parameters g.params rows → IfOk r (λ text. text ≡ condition_text names (alternatives over)) → IfOk r (IsQuick d g names)
+quick_unless d g names rows over (Ok text) suffice same printed = quick_is d g names rows text suffice (printed ∙ ap (λ (z : List Linear). condition_text names (alternatives z)) same)
+quick_unless d g names rows over (Err e) suffice same printed = tt

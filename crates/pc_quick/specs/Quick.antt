@@ -1,5 +1,5 @@
 -- A condition of one line: what a domain finds to be enough at the entry.
-use Rattle.std.specs.Prelude.{◌≡◌, ◌×◌, ◌↔◌, ℕ, ◌≤◌, pos, int_lt, Bool, false, ◌&&◌, if◌then◌else◌, List, [], ◌∷◌, length, map, slice_get, IsSomeAnd, All}
+use Rattle.std.specs.Prelude.{◌≡◌, ◌↔◌, ℕ, ◌≤◌, pos, int_lt, Bool, false, ◌&&◌, if◌then◌else◌, List, [], ◌∷◌, length, map, slice_get, IsSomeAnd, All}
 use Rattle.pc_text.specs.Bytes.{Bytes}
 use Rattle.pc_rows.specs.Linear.{Linear, State, MeetsAll, MeetsSome, IsOver, first_of, is_number}
 use Rattle.pc_cert.specs.Conditions.{condition_text}
