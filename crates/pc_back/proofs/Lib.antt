@@ -2,4 +2,5 @@ pub mod Joins
 pub mod Viewing
 pub mod Same
 pub mod States
+pub mod Gathering
 pub mod Keeping
