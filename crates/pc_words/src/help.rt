@@ -71,8 +71,9 @@ pub(crate) const RUN: &str = "Prints how a program runs over the choices of a sc
 
 pub(crate) const RUN_BELOW: &str = "\
 Prints one line, which begins with violated, and has status 1; with blocked, ended or going; or with
-past, and has status 9. A script has a line entry with a value for each parameter, and a line choose
-with a number for each choice.
+past, and has status 9. A script has a line with entry and a value for each parameter, as entry 3 0,
+and then lines with choose, a number that is chosen, and how often where it is more than once, as
+choose 1 500.
 
 Example:
   precond run copy copy.script";

@@ -9,6 +9,7 @@ mod guidance;
 mod help;
 mod laws;
 mod loops;
+mod options;
 mod subcommands;
 mod words;
 mod writing;
