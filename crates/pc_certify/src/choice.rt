@@ -23,7 +23,7 @@ pub fn choice_of_mode(alloc: Global, g: &Graph, m: Mode) -> Result<Option<Annota
     ensures { ChoiceIs g.now (of_mode g.now m) (IsPromised g.now m) result }
 {
     match candidate(alloc, g, m) {
-        Ok(a) => chosen(alloc, g, &a),
+        Ok(a) => chosen(alloc, g, a),
         Err(CandidateFault::Past) => Ok(None),
         Err(CandidateFault::Full) => Ok(None),
         Err(CandidateFault::NoMemory) => Err(NoMemory),
@@ -37,7 +37,7 @@ pub fn choice_of_need(alloc: Global, g: &Graph) -> Result<Option<Annotated>, NoM
 {
     let heads = no_rows(alloc, g)?;
     match complete(alloc, g, &heads) {
-        Ok(a) => chosen(alloc, g, &a),
+        Ok(a) => chosen(alloc, g, a),
         Err(CandidateFault::Past) => Ok(None),
         Err(CandidateFault::Full) => Ok(None),
         Err(CandidateFault::NoMemory) => Err(NoMemory),
@@ -46,9 +46,9 @@ pub fn choice_of_need(alloc: Global, g: &Graph) -> Result<Option<Annotated>, NoM
 
 /// The annotation with its proofs and with the rows of its entry reduced, unless they are found to
 /// contradict each other.
-fn chosen(alloc: Global, g: &Graph, annotation: &Annotation) -> Result<Option<Annotated>, NoMemory>
-    requires { IsComplete g.now annotation.now }
-    ensures { ChosenIs g.now annotation.now result }
+fn chosen(alloc: Global, g: &Graph, annotation: Annotation) -> Result<Option<Annotated>, NoMemory>
+    requires { IsComplete g.now annotation }
+    ensures { ChosenIs g.now annotation result }
 {
     match annotated(alloc, g, annotation)? {
         Some(a) => possible(alloc, g, reduced(alloc, g, a)?),
