@@ -14,7 +14,7 @@ ghost use Rattle.pc_certify.specs.Inferring.{IsExact, Covers, IsAlternative, Has
 
 use crate::choice::choice_of_need;
 use crate::lists::push;
-use crate::modes::of_modes;
+use crate::loops::of_loops;
 use pc_certificate::{Annotated, Certificate};
 use pc_flow::Graph;
 use pc_rows::NoMemory;
@@ -69,7 +69,7 @@ fn alternatives(alloc: Global, g: &Graph) -> Result<Items<Annotated>, NoMemory>
     ensures { IfOk result (AreAlternatives g.now) }
 {
     if has_heads(g) {
-        of_modes(alloc, g)
+        of_loops(alloc, g)
     } else {
         of_need(alloc, g)
     }
