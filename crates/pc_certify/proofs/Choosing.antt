@@ -1,5 +1,5 @@
 -- The choice of an alternative for a candidate.
-use Rattle.std.proofs.Common.{◌≡◌, List, refl, sym, ap, subst, ◌∙◌, inl, inr, true, Option, Some, None, Result, Ok, Err}
+use Rattle.std.proofs.Common.{◌≡◌, ◌<◌, List, length, arith, refl, sym, ap, subst, ◌∙◌, inl, inr, true, Option, Some, None, Result, Ok, Err}
 use Rattle.std.specs.Prelude.{IfOk, IfSome}
 use Rattle.pc_rows.specs.declared.rows.NoMemory.{NoMemory}
 use Rattle.pc_rows.specs.Linear.{State, MeetsAll}
@@ -14,6 +14,7 @@ use Rattle.pc_certify.specs.Claims.{IsProved}
 use Rattle.pc_certify.specs.Entries.{IsOfEntry, HasRows, ReducesTo, PossibleIs}
 use Rattle.pc_certify.specs.Inferring.{IsChosen, ChosenIs, FoundIs, ChosenOf, ChoiceIs, TakesFound, TakesNext}
 use Rattle.pc_certify.specs.Proving.{AnnotatedIs}
+use Rattle.pc_certify.specs.Selecting.{HasEntry}
 use Rattle.pc_certify.proofs.Claimed.{annotation_proved}
 
 -- an annotation with proofs
@@ -68,3 +69,11 @@ module _ (g : Flow) (k : Candidate) (Tame Promised : Type 0) (tame : Promised �
 pub found_complete : (g : Flow) (k : Candidate) (Tame : Type 0) (found : Option Annotation) → FoundIs g k Tame (Ok found) → IfSome found (IsComplete g)
 found_complete g k Tame (Some a) h = h.0
 found_complete g k Tame None h = tt
+
+-- the alternative of an annotation that is there has rows for the entry
+pub chosen_entry : (g : Flow) (found : Option Annotation) (o : Option Annotated) (b : Annotated) → o ≡ Some b → 1 < length g.points → ChosenOf g found (Ok o) → HasEntry b
+chosen_entry g found o b is some h = by found (subst (λ (z : Option Annotated). ChosenOf g found (Ok z)) is h)
+  where
+    by : (found : Option Annotation) → ChosenOf g found (Ok (Some b)) → HasEntry b
+    by (Some a) h = let long = h.proved.long in omega arith
+    by None h = absurd (cc)

@@ -39,7 +39,7 @@ chosen_is_kept g k a origin h =
     record { proved = h.proved; alternative = record { candidate = k; origin = origin; entry = h.entry; others = h.others } }
 
 -- a list put before another one, in the opposite order
-onto : List Mode → List Mode → List Mode
+abbrev onto : List Mode → List Mode → List Mode
 onto [] done = done
 onto (m ∷ ms) done = onto ms (m ∷ done)
 
@@ -96,17 +96,22 @@ module _ (g : Flow) (k : Candidate) (origin : IsOrigin g k) (Promised : Type 0) 
   next_states kept new (None, choice, is) p s met = absurd (choice.states p s met)
   next_states kept new (Some a, choice, selects) p s met = selects_takes s a kept new selects (choice.states s met)
 
+-- the modes one after the other
+pub modes_taken : (g : Flow) (hint plain tilt1 tilt2 : List Annotated) (found : Result (List Annotated) NoMemory) → Takes g Hint [] hint → Takes g Plain hint plain → Takes g Tilt1 plain tilt1 →
+    Takes g Tilt2 tilt1 tilt2 → IfOk found (Takes g Escape tilt2) → IfOk found (TakesEach (Takes g) modes [])
+modes_taken g hint plain tilt1 tilt2 (Ok escape) a b c d e = (hint, a, (plain, b, (tilt1, c, (tilt2, d, (escape, e, refl)))))
+modes_taken g hint plain tilt1 tilt2 (Err x) a b c d e = tt
+
 module _ (g : Flow) (loops : NoHeads g.points → ⊥) where
   mode_kept : (m : Mode) (count : ℕ) (done : List Mode) (kept new : List Annotated) → AreKept g count done kept → Takes g m kept new → AreKept g (count + 1) (m ∷ done) new
   mode_kept m count done kept new h takes =
-      let k = of_mode g m in
-      let next = next_kept g k (inl (inr (loops, (m, refl)))) (IsPromised g m) count done kept new h takes in
+      let next = next_kept g (of_mode g m) (inl (inr (loops, (m, refl)))) (IsPromised g m) count done kept new h takes in
       record {
         each = next.each;
         few = next.few;
         apart = next.apart;
-        none = λ e. (next_none g k (inl (inr (loops, (m, refl)))) (IsPromised g m) kept new takes e, next.none e);
-        keeps = (next_states g k (inl (inr (loops, (m, refl)))) (IsPromised g m) kept new takes, next.keeps);
+        none = λ e. (next_none g (of_mode g m) (inl (inr (loops, (m, refl)))) (IsPromised g m) kept new takes e, next.none e);
+        keeps = (next_states g (of_mode g m) (inl (inr (loops, (m, refl)))) (IsPromised g m) kept new takes, next.keeps);
       }
 
   modes_kept : (ms done : List Mode) (count : ℕ) (kept new : List Annotated) → AreKept g count done kept → TakesEach (Takes g) ms kept new → AreKept g (count + length ms) (onto ms done) new
@@ -146,13 +151,18 @@ module _ (g : Flow) (loops : NoHeads g.points → ⊥) where
         covers = λ m p s met. meets_condition s all (each_mode (Keeps g all) kept.keeps m p s met);
       }
 
+  all_modes : (kept : List Annotated) → TakesEach (Takes g) modes [] kept → AreKept g 5 (onto modes []) kept
+  all_modes kept takes =
+      let five : length modes ≡ 5 = refl in
+      more_kept g (0 + length modes) 5 (onto modes []) kept (omega arith) (modes_kept modes [] 0 [] kept (nothing_yet g) takes)
+
   -- all modes, and at most four lists of heads
   pub all_taken : (later : List Annotation) (kept : List Annotated) (new : Result (List Annotated) NoMemory) → length later ≤ 4 → TakesEach (Takes g) modes [] kept →
       IfOk new (TakesEach (TakesHeads g) later kept) → IfOk new (AreAlternatives g)
   all_taken later kept (Err e) few takes more = tt
   all_taken later kept (Ok new) few takes more =
       are_alternatives (5 + length later) new (omega arith)
-      (heads_kept later (onto modes []) 5 kept new (modes_kept modes [] 0 [] kept (nothing_yet g) takes) more)
+      (heads_kept later (onto modes []) 5 kept new (all_modes kept takes) more)
 
 -- without loops: the need
 

@@ -10,7 +10,7 @@ pub mod Choosing
 pub mod Beside
 pub mod Selecting
 pub mod Keeping
-pub mod Heads
+pub mod Filling
 pub mod Certificates
 pub mod Renewing
 pub mod Reductions

@@ -10,8 +10,8 @@ ghost use Rattle.pc_certify.specs.Selecting.{HasEntry};
 ghost use Rattle.pc_certify.specs.Inferring.{Takes, TakesHeads, TakesFound, TakesEach, modes, AreAlternatives};
 
 use crate::choice::{choice_of, of_heads, of_mode};
-use crate::entry::entry_edge;
 use crate::domains::{facts, needed};
+use crate::entry::entry_edge;
 use crate::heads::with_rows;
 use crate::lists::push;
 use crate::selection::select;
@@ -124,18 +124,17 @@ fn with_all(
     alloc: Global,
     g: &Graph,
     mut later: Items<Annotation>,
-    kept: Items<Annotated>,
+    mut kept: Items<Annotated>,
 ) -> Result<Items<Annotated>, NoMemory>
     requires heads { Each (AreHeads g.now) later }
     requires entries { Each HasEntry kept }
     ensures { IfOk result (TakesEach (TakesHeads g.now) later kept) }
 {
-    let mut all = kept;
     'rest: while 0 < later.len() {
         let heads = later.remove(0);
-        all = with_heads(alloc, g, &heads, all)?;
+        kept = with_heads(alloc, g, &heads, kept)?;
     }
-    Ok(all)
+    Ok(kept)
 }
 
 /// The alternatives that are kept after rows at the heads.

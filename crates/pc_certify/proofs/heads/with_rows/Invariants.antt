@@ -1,4 +1,4 @@
-use Rattle.pc_certify.proofs.Heads.{HeadsBelow}
+use Rattle.pc_certify.proofs.Filling.{HeadsBelow}
 use Rattle.pc_certify.proofs.heads.with_rows.Given as goal
 
 abbrev pub invariant-loop-p : goal.invariant-loop-p

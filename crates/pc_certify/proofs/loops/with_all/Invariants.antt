@@ -8,9 +8,9 @@ use Rattle.pc_certify.proofs.loops.with_all.Given as goal
 
 abbrev pub invariant-rest : goal.invariant-rest
 invariant-rest l = record {
-  go_on : (new : List Annotated) → TakesEach (TakesHeads l.g) l.later l.all new → TakesEach (TakesHeads l.g) l.fn.later l.kept new;
+  go_on : (new : List Annotated) → TakesEach (TakesHeads l.g) l.later l.kept new → TakesEach (TakesHeads l.g) l.fn.later l.fn.kept new;
   heads : AllByRecursion (AreHeads l.g) l.later;
-  entries : AllByRecursion HasEntry l.all;
+  entries : AllByRecursion HasEntry l.kept;
 }
 
 abbrev pub decreases-rest : goal.decreases-rest
