@@ -1,27 +1,27 @@
 -- What follows from how files and words are answered.
-use Rattle.std.proofs.Common.{◌≡◌, ◌≢◌, ◌∙◌, ◌↔◌, sym, subst, ℕ, List, arith, ◌⊎◌, inl, inr, refl}
+use Rattle.std.proofs.Common.{◌≡◌, ◌≢◌, ◌∙◌, ◌↔◌, subst, ℕ, List, arith, ◌⊎◌, inl, inr, refl}
 use Rattle.pc_ports.specs.Outside.{Holding, Untold, Nothing, Held}
 use Rattle.pc_text.specs.Bytes.{Bytes}
 use Rattle.pc_program.specs.declared.program.Program.{Program}
-use Rattle.pc_certificate.specs.Certificate.{Certificate}
 use Rattle.pc_graph.specs.Lowering.{graph}
 use Rattle.pc_replay.specs.Rule.{ruling as ruling_on}
 use Rattle.pc_replay.specs.declared.ruling.Ruling.{Ruling}
 use Rattle.pc_replay.specs.declared.ruling.Ruling.TheVariants as ruling
-use Rattle.pc_runner.specs.Scripts.{Choosing}
 use Rattle.pc_runner.specs.declared.verdict.Verdict.{Verdict}
 use Rattle.pc_runner.specs.declared.verdict.Verdict.TheVariants as verdict
 use Rattle.pc_app.specs.declared.status.TheConstants.{DONE, USAGE, REFUSED, MALFORMED, TOO_LONG, FAILED, PAST}
 use Rattle.pc_app.specs.Rulings.{ruling_status}
 use Rattle.pc_app.specs.Verdicts.{verdict_status}
-use Rattle.pc_app.specs.Words.{Order, Infer, Certify, Replay, Run, Show, IsOrder, IsPlain, words_of}
+use Rattle.pc_words.specs.Words.{Order, Infer, Certify, Replay, Run, Facts, Quick, Show, Trial, Inputs, Made, Source, WithCertificate, WithScript, inputs_of}
+use Rattle.pc_words.specs.Taken.{AreCommand, Orders}
 use Rattle.pc_app.specs.Files.{Kind, MayHold, MayMean, OnFile}
 use Rattle.pc_app.specs.Files.OnFile.{IsRefused, IsRead}
 use Rattle.pc_app.specs.Kinds.{source_kind, script_kind, certificate_kind}
-use Rattle.pc_app.specs.Answers.{Answers, ReplayAnswers, RunAnswers, OrderAnswers}
+use Rattle.pc_app.specs.Answers.{Answers, Given, Says, OnCertificate, OnScript, OnInputs, OrderAnswers}
 use Rattle.pc_app.specs.Answers.Answers.{Unknown, Known}
-use Rattle.pc_app.specs.Causes.{IsRuling, IsVerdict}
+use Rattle.pc_app.specs.Causes.{IsRuling, IsVerdict, IsEnd}
 use Rattle.pc_app.specs.Promises.{OfBytes, IsAnswered}
+use Rattle.pc_words.proofs.SpellingLemmas.{one_thing}
 
 -- ---- the statuses with which an order is answered
 
@@ -50,13 +50,6 @@ of_verdict status (verdict.Ended n) s = inl s
 of_verdict status (verdict.Going state) s = inl s
 of_verdict status (verdict.Past n p) s = inr (inr s)
 
--- a certificate that is read is answered by a ruling, and a script by a verdict
-pub replay_ends : (p : Program) (c : Certificate) (status : ℕ) (text : Bytes) → ReplayAnswers p c status text → IsRuling status
-replay_ends p c status text a = of_ruling status (ruling_on (graph p) c) a.status_is
-
-pub run_ends : (p : Program) (c : Choosing) (status : ℕ) (text : Bytes) → RunAnswers p c status text → IsVerdict status
-run_ends p c status text a = of_verdict status a.verdict a.status_is
-
 module _ (status : ℕ) (text : Bytes) where
   file_usual : (kind : Kind) (A : kind.Meaning → ℕ → Bytes → Type 0) (held : Holding) → (kind.status ≡ REFUSED) ⊎ (kind.status ≡ MALFORMED) → ((m : kind.Meaning) → A m status text → Usual status) →
       OnFile kind A held status text → Usual status
@@ -77,14 +70,30 @@ module _ (status : ℕ) (text : Bytes) where
   source_usual : (A : Program → ℕ → Bytes → Type 0) (held : Holding) → ((p : Program) → A p status text → Usual status) → OnFile source_kind A held status text → Usual status
   source_usual A held f a = file_usual source_kind A held (inl refl) f a
 
+  -- what files mean is answered by a status of those that are read
+  abbrev pub AllEnd : (inputs : Inputs) → (Given inputs → ℕ → Bytes → Type 0) → Type 0
+  AllEnd inputs A = (given : Given inputs) → A given status text → IsEnd inputs status
+
+  inputs_usual : (held : Bytes → Holding) (inputs : Inputs) (A : Given inputs → ℕ → Bytes → Type 0) → AllEnd inputs A → OnInputs held inputs A status text → Usual status
+  inputs_usual held (Made loops) A ends a = usual status (inl (ends tt a))
+  inputs_usual held (Source source) A ends a = source_usual A (held source) (λ p b. usual status (inl (ends p b))) a
+  inputs_usual held (WithCertificate source certificate) A ends a =
+      source_usual (OnCertificate (held certificate) A) (held source) (λ p b. file_usual certificate_kind (λ c. A (p, c)) (held certificate) (inr refl) (λ c r. ruling_usual (ends (p, c) r)) b) a
+  inputs_usual held (WithScript source script) A ends a =
+      source_usual (OnScript (held script) A) (held source) (λ p b. file_usual (script_kind p.names.params) (λ c. A (p, c)) (held script) (inr refl) (λ c r. verdict_usual (ends (p, c) r)) b) a
+
+  pub says_ends : (order : Order) → AllEnd (inputs_of order) (Says order)
+  says_ends (Infer source) p a = a.status_is
+  says_ends (Certify source) p a = a.status_is
+  says_ends (Replay source certificate) given a = of_ruling status (ruling_on (graph given.0) given.1) a.status_is
+  says_ends (Run source script) given a = of_verdict status a.verdict a.status_is
+  says_ends (Facts domain source) p a = a.status_is
+  says_ends (Quick domain source) p a = a.status_is
+  says_ends (Show source) p a = a.status_is
+  says_ends (Trial loops) given a = a.status_is
+
   order_usual : (held : Bytes → Holding) (order : Order) → OrderAnswers held order status text → Usual status
-  order_usual held (Infer source) a = source_usual _ (held source) (λ p b. usual status (inl b.status_is)) a
-  order_usual held (Certify source) a = source_usual _ (held source) (λ p b. usual status (inl b.status_is)) a
-  order_usual held (Replay source certificate) a =
-      source_usual _ (held source) (λ p b. file_usual certificate_kind _ (held certificate) (inr refl) (λ c r. ruling_usual (replay_ends p c status text r)) b) a
-  order_usual held (Run source script) a =
-      source_usual _ (held source) (λ p b. file_usual (script_kind p.names.params) _ (held script) (inr refl) (λ c r. verdict_usual (run_ends p c status text r)) b) a
-  order_usual held (Show source) a = source_usual _ (held source) (λ p b. usual status (inl b.status_is)) a
+  order_usual held order a = inputs_usual held (inputs_of order) (Says order) (says_ends order) a
 
 -- ---- what is answered of a file that holds these bytes
 
@@ -113,49 +122,19 @@ of_bytes P Untold here nowhere = tt
 of_bytes P Nothing here nowhere = nowhere refl
 of_bytes P (Held bytes) here nowhere = here bytes refl
 
--- ---- words order one thing
-
-words_tell : (a b : Order) → words_of a ≡ words_of b → b ≡ a
-words_tell (Infer f) (Infer g) e = cc
-words_tell (Infer f) (Certify g) e = cc
-words_tell (Infer f) (Replay g c) e = cc
-words_tell (Infer f) (Run g s) e = cc
-words_tell (Infer f) (Show g) e = cc
-words_tell (Certify f) (Infer g) e = cc
-words_tell (Certify f) (Certify g) e = cc
-words_tell (Certify f) (Replay g c) e = cc
-words_tell (Certify f) (Run g s) e = cc
-words_tell (Certify f) (Show g) e = cc
-words_tell (Replay f c) (Infer g) e = cc
-words_tell (Replay f c) (Certify g) e = cc
-words_tell (Replay f c) (Replay g d) e = cc
-words_tell (Replay f c) (Run g s) e = cc
-words_tell (Replay f c) (Show g) e = cc
-words_tell (Run f s) (Infer g) e = cc
-words_tell (Run f s) (Certify g) e = cc
-words_tell (Run f s) (Replay g c) e = cc
-words_tell (Run f s) (Run g t) e = cc
-words_tell (Run f s) (Show g) e = cc
-words_tell (Show f) (Infer g) e = cc
-words_tell (Show f) (Certify g) e = cc
-words_tell (Show f) (Replay g c) e = cc
-words_tell (Show f) (Run g s) e = cc
-words_tell (Show f) (Show g) e = cc
-
-pub same_order : (words : List Bytes) (a b : Order) → IsOrder words a → IsOrder words b → b ≡ a
-same_order words a b p q = words_tell a b (sym p.spelled ∙ q.spelled)
+-- ---- what words are answered
 
 module _ (words : List Bytes) (held : Bytes → Holding) (status : ℕ) (text : Bytes) where
   -- words that are an order are answered as the order
-  pub order_answers : (order : Order) → IsOrder words order → Answers words held status text → OrderAnswers held order status text
-  order_answers order is (Unknown none s t) = absurd (none (order, is))
-  order_answers order is (Known other that a) = subst (λ (o : Order). OrderAnswers held o status text) (same_order words order other is that) a
+  pub order_answers : (order : Order) → Orders words order → Answers words held status text → OrderAnswers held order status text
+  order_answers order is (Unknown none s) = absurd (none (order, is))
+  order_answers order is (Known other that a) = subst (λ (o : Order). OrderAnswers held o status text) (one_thing words order other is that) a
 
   pub answers_is_answered : Answers words held status text → IsAnswered status
-  answers_is_answered (Unknown none s t) = (omega arith, omega arith, omega arith)
+  answers_is_answered (Unknown none s) = (omega arith, omega arith, omega arith)
   answers_is_answered (Known order is a) = (order_usual status text held order a).answered
 
-  -- the usage is the answer to words in no plain form, and to no others
-  pub answers_usage : Answers words held status text → (status ≡ USAGE) ↔ (IsPlain words → ⊥)
-  answers_usage (Unknown none s t) = (λ e. none, λ o. s)
+  -- the usage is the answer to words that order nothing, and to no others
+  pub answers_usage : Answers words held status text → (status ≡ USAGE) ↔ (AreCommand words → ⊥)
+  answers_usage (Unknown none s) = (λ e. none, λ o. s)
   answers_usage (Known order is a) = (λ e. absurd ((order_usual status text held order a).known e), λ o. absurd (o (order, is)))

@@ -1,9 +1,9 @@
 -- The causes of statuses: what is held gives the answer, and the answer tells what is held.
-use Rattle.std.proofs.Common.{◌≡◌, ◌≢◌, ◌∙◌, ap, sym, subst, Some, None, ◌⊎◌, inl, inr, refl, ℕ, ◌<◌, ◌≤◌, length, arith, Option}
+use Rattle.std.proofs.Common.{◌≡◌, ◌≢◌, ◌∙◌, sym, subst, ◌⊎◌, inl, inr, refl, ℕ, ◌<◌, ◌≤◌, length, arith}
 use Rattle.pc_ports.specs.Outside.{Holding, Untold, Nothing, Held}
 use Rattle.pc_text.specs.Bytes.{Bytes}
 use Rattle.pc_app.specs.declared.status.TheConstants.{TOO_LONG}
-use Rattle.pc_app.specs.Files.{Kind, MayHold, MayMean, IsTooLong, IsFaulty, OnFile}
+use Rattle.pc_app.specs.Files.{Kind, MayHold, MayMean, OnFile}
 use Rattle.pc_app.specs.Files.OnFile.{IsRefused, IsRead}
 use Rattle.pc_app.specs.Causes.{IsHeld, IsOver, IsMeaningless, IsMeant}
 use Rattle.pc_app.proofs.KindLemmas.{IsDecided}

@@ -4,16 +4,20 @@ use Rattle.pc_ports.specs.Outside.{Holding, Nothing, Held, Rose, Appended}
 use Rattle.pc_text.specs.Bytes.{Bytes}
 use Rattle.pc_program.specs.declared.program.Program.{Program}
 use Rattle.pc_app.specs.declared.status.TheConstants.{DONE, USAGE, REFUSED, MALFORMED, STORE_FAILED, SINK_FAILED, NO_MEMORY, TOO_LONG}
-use Rattle.pc_app.specs.Words.{Order, Infer, Certify, Replay, Run, Show, IsOrder, IsInfer, IsCertify, IsReplay, IsRun, IsShow, IsPlain, files_of}
+use Rattle.pc_words.specs.declared.domains.FactsDomain.{FactsDomain}
+use Rattle.pc_words.specs.declared.domains.QuickDomain.{QuickDomain}
+use Rattle.pc_words.specs.Words.{Order, Infer, Certify, Replay, Run, Facts, Quick, Show, Trial, Inputs, Made, Source, WithCertificate, WithScript, inputs_of, names_of, files_of}
+use Rattle.pc_words.specs.Taken.{AreCommand, Orders, IsInfer, IsCertify, IsReplay, IsRun, IsFacts, IsQuick, IsShow, IsTrial}
 use Rattle.pc_app.specs.Files.{OnFile}
 use Rattle.pc_app.specs.Kinds.{source_kind}
-use Rattle.pc_app.specs.Answers.{OrderAnswers}
-use Rattle.pc_app.specs.Silences.{IsLost, IsLostBehind, OrderIsLost, LacksFile}
+use Rattle.pc_app.specs.Answers.{Says, OrderAnswers}
+use Rattle.pc_app.specs.Silences.{IsLost, IsLostBehind, AreLost, OrderIsLost, LacksFile}
 use Rattle.pc_app.specs.Causes.{IsRuling, IsVerdict, OrderIsTooLong, OrderIsRefused, OrderIsMalformed, OrderIsMeant, IsOutcome}
-use Rattle.pc_app.specs.Promises.{OfBytes, PrintedSuffices, PrintedIsExact, PrintedCovers, PrintedCertificate, PrintedRuling, PrintedAccepted, PrintedVerdict, PrintedProgram, AreTold, AreThere, IsAnswered, IsOnlyStatus, HasAnswered, IsCutOff, Ends}
+use Rattle.pc_app.specs.Promises.{OfBytes, PrintedSuffices, PrintedIsExact, PrintedCovers, PrintedCertificate, PrintedRuling, PrintedAccepted, PrintedVerdict, PrintedProgram, PrintedFacts, PrintedEnough, PrintedTrial, AreTold, AreThere, IsAnswered, IsOnlyStatus, HasAnswered, IsCutOff, Ends}
 use Rattle.pc_app.specs.Promises.Ends.{Answered, Unread, CutOff, Starved}
-use Rattle.pc_app.proofs.AnswerLemmas.{same_order, order_answers, answers_is_answered, answers_usage, of_nothing, of_bytes}
-use Rattle.pc_app.proofs.PromiseLemmas.{infer_is_exact, infer_covers, certify_is_right, replay_is_ruling, run_is_verdict, show_is_text, of_source_accepts, suffices_of}
+use Rattle.pc_words.proofs.SpellingLemmas.{one_thing}
+use Rattle.pc_app.proofs.AnswerLemmas.{says_ends, order_answers, answers_is_answered, answers_usage, of_nothing, of_bytes}
+use Rattle.pc_app.proofs.PromiseLemmas.{infer_is_exact, infer_covers, certify_is_right, replay_is_ruling, run_is_verdict, show_is_text, facts_are_known, quick_is_enough, trial_is_told, of_source_accepts, suffices_of}
 use Rattle.pc_app.proofs.OnlyLemmas.{order_once, words_once}
 use Rattle.pc_app.proofs.StatusLemmas.{too_long_answer, refused_answer, malformed_answer, too_long_cause, refused_cause, malformed_cause, outcome, are_there}
 
@@ -28,7 +32,7 @@ module _ (words : List Bytes) (held : Bytes → Holding) (old new : Option Bytes
   answered (Starved s same) is = absurd (is.2 s)
 
   -- how an order is answered
-  order_of : Ended → IsAnswered status → (order : Order) → IsOrder words order → (text : Bytes) × OrderAnswers held order status text × Appended old new text
+  order_of : Ended → IsAnswered status → (order : Order) → Orders words order → (text : Bytes) × OrderAnswers held order status text × Appended old new text
   order_of ends is order ordered = let a = answered ends is in (a.text, order_answers words held status a.text order ordered a.answers, a.written)
 
   -- a promise on the bytes of the source of an order
@@ -74,30 +78,43 @@ module _ (words : List Bytes) (held : Bytes → Holding) (old new : Option Bytes
       let a = order_of ends (omega arith, omega arith, omega arith) (Show name) show in
       promised _ _ name a.0 a.1 (λ bytes e. show_is_text (held name) bytes status a.0 old new e a.2 done a.1)
 
-  pub usage : Ended → IsAnswered status → (status ≡ USAGE) ↔ (IsPlain words → ⊥)
+  pub known : Ended → (domain : FactsDomain) (name : Bytes) → IsFacts words domain name → status ≡ DONE → OfBytes (λ bytes. PrintedFacts domain bytes old new) (held name)
+  known ends domain name facts done =
+      let a = order_of ends (omega arith, omega arith, omega arith) (Facts domain name) facts in
+      promised _ _ name a.0 a.1 (λ bytes e. facts_are_known (held name) bytes status a.0 old new e a.2 domain done a.1)
+
+  pub enough : Ended → (domain : QuickDomain) (name : Bytes) → IsQuick words domain name → status ≡ DONE → OfBytes (λ bytes. PrintedEnough domain bytes old new) (held name)
+  enough ends domain name quick done =
+      let a = order_of ends (omega arith, omega arith, omega arith) (Quick domain name) quick in
+      promised _ _ name a.0 a.1 (λ bytes e. quick_is_enough (held name) bytes status a.0 old new e a.2 domain done a.1)
+
+  pub trial : Ended → (loops : ℕ) → IsTrial words loops → status ≡ DONE → PrintedTrial loops old new
+  trial ends loops trial done = let a = order_of ends (omega arith, omega arith, omega arith) (Trial loops) trial in trial_is_told loops status a.0 old new a.1 a.2
+
+  pub usage : Ended → IsAnswered status → (status ≡ USAGE) ↔ (AreCommand words → ⊥)
   usage ends is = let a = answered ends is in answers_usage words held status a.text a.answers
 
   pub only : Ended → IsAnswered status → IsOnlyStatus words held status
   only ends is other text answers told = let a = answered ends is in words_once other text status a.text words held told answers a.answers
 
   -- a status comes where its cause stands, since the order has no other
-  comes : Ended → IsAnswered status → (order : Order) → IsOrder words order → AreTold held (files_of order) → (other : ℕ) → (text : Bytes) × OrderAnswers held order other text → status ≡ other
+  comes : Ended → IsAnswered status → (order : Order) → Orders words order → AreTold held (files_of order) → (other : ℕ) → (text : Bytes) × OrderAnswers held order other text → status ≡ other
   comes ends is order ordered told other x = let a = order_of ends is order ordered in sym (order_once other x.0 status a.0 held order told x.1 a.1)
 
-  pub too_long : Ended → (order : Order) → IsOrder words order → AreTold held (files_of order) → IsAnswered status → (status ≡ TOO_LONG) ↔ OrderIsTooLong held order
+  pub too_long : Ended → (order : Order) → Orders words order → AreTold held (files_of order) → IsAnswered status → (status ≡ TOO_LONG) ↔ OrderIsTooLong held order
   too_long ends order ordered told is =
       let a = order_of ends is order ordered in
-      (λ e. too_long_cause status a.0 held order told e a.1, λ h. comes ends is order ordered told TOO_LONG (too_long_answer held order h))
+      (λ e. too_long_cause status a.0 held (inputs_of order) (Says order) (says_ends status a.0 order) told e a.1, λ h. comes ends is order ordered told TOO_LONG (too_long_answer held (inputs_of order) (Says order) h))
 
-  pub refused : Ended → (order : Order) → IsOrder words order → AreTold held (files_of order) → IsAnswered status → (status ≡ REFUSED) ↔ OrderIsRefused held order
+  pub refused : Ended → (order : Order) → Orders words order → AreTold held (files_of order) → IsAnswered status → (status ≡ REFUSED) ↔ OrderIsRefused held order
   refused ends order ordered told is =
       let a = order_of ends is order ordered in
-      (λ e. refused_cause status a.0 held order told e a.1, λ h. comes ends is order ordered told REFUSED (refused_answer held order h))
+      (λ e. refused_cause status a.0 held (inputs_of order) (Says order) (says_ends status a.0 order) told e a.1, λ h. comes ends is order ordered told REFUSED (refused_answer held (inputs_of order) (Says order) h))
 
-  pub malformed : Ended → (order : Order) → IsOrder words order → AreTold held (files_of order) → IsAnswered status → (status ≡ MALFORMED) ↔ OrderIsMalformed held order
+  pub malformed : Ended → (order : Order) → Orders words order → AreTold held (files_of order) → IsAnswered status → (status ≡ MALFORMED) ↔ OrderIsMalformed held order
   malformed ends order ordered told is =
       let a = order_of ends is order ordered in
-      (λ e. malformed_cause status a.0 held order told e a.1, λ h. comes ends is order ordered told MALFORMED (malformed_answer held order h))
+      (λ e. malformed_cause status a.0 held (inputs_of order) (Says order) (says_ends status a.0 order) told e a.1, λ h. comes ends is order ordered told MALFORMED (malformed_answer held (inputs_of order) (Says order) h))
 
   pub store : Ended → status ≡ STORE_FAILED → LacksFile words held store_before store_now
   store (Answered a) e = absurd ((answers_is_answered words held status a.text a.answers).0 e)
@@ -129,25 +146,24 @@ module _ (words : List Bytes) (held : Bytes → Holding) (old new : Option Bytes
   not_lost_behind source other there also kept (inl lost) = not_lost source there kept lost
   not_lost_behind source other there also kept (inr behind) = not_lost other also kept behind.lost
 
-  none_lost : (order : Order) → AreThere held (files_of order) → (Rose store_before store_now → ⊥) → OrderIsLost held store_before store_now order → ⊥
-  none_lost (Infer source) there kept lost = not_lost source there.0 kept lost
-  none_lost (Certify source) there kept lost = not_lost source there.0 kept lost
-  none_lost (Replay source certificate) there kept lost = not_lost_behind source certificate there.0 there.1.0 kept lost
-  none_lost (Run source script) there kept lost = not_lost_behind source script there.0 there.1.0 kept lost
-  none_lost (Show source) there kept lost = not_lost source there.0 kept lost
+  none_lost : (inputs : Inputs) → AreThere held (names_of inputs) → (Rose store_before store_now → ⊥) → AreLost held store_before store_now inputs → ⊥
+  none_lost (Made loops) there kept lost = absurd lost
+  none_lost (Source source) there kept lost = not_lost source there.0 kept lost
+  none_lost (WithCertificate source certificate) there kept lost = not_lost_behind source certificate there.0 there.1.0 kept lost
+  none_lost (WithScript source script) there kept lost = not_lost_behind source script there.0 there.1.0 kept lost
 
-  pub answers : Ended → (order : Order) → IsOrder words order → AreThere held (files_of order) → (Rose store_before store_now → ⊥) → (Rose sink_before sink_now → ⊥) → IsAnswered status ⊎ (status ≡ NO_MEMORY)
+  pub answers : Ended → (order : Order) → Orders words order → AreThere held (files_of order) → (Rose store_before store_now → ⊥) → (Rose sink_before sink_now → ⊥) → IsAnswered status ⊎ (status ≡ NO_MEMORY)
   answers (Answered a) order is there store_kept sink_kept = inl (answers_is_answered words held status a.text a.answers)
   answers (Unread s lacks same) order is there store_kept sink_kept =
-      let same = same_order words order lacks.order is lacks.named in
-      absurd (none_lost order there store_kept (subst (λ (o : Order). OrderIsLost held store_before store_now o) same lacks.lost))
+      let same = one_thing words order lacks.order is lacks.named in
+      absurd (none_lost (inputs_of order) there store_kept (subst (λ (o : Order). OrderIsLost held store_before store_now o) same lacks.lost))
   answers (CutOff s cut) order is there store_kept sink_kept = absurd (sink_kept cut.cause)
   answers (Starved s same) order is there store_kept sink_kept = inr s
 
-  pub complete : Ended → (order : Order) → IsOrder words order → AreTold held (files_of order) → OrderIsMeant held order →
+  pub complete : Ended → (order : Order) → Orders words order → AreTold held (files_of order) → OrderIsMeant held order →
       (Rose store_before store_now → ⊥) → (Rose sink_before sink_now → ⊥) → IsOutcome order status ⊎ (status ≡ NO_MEMORY)
-  complete ends order ordered told meant store_kept sink_kept = by (answers ends order ordered (are_there held order meant) store_kept sink_kept)
+  complete ends order ordered told meant store_kept sink_kept = by (answers ends order ordered (are_there held (inputs_of order) meant) store_kept sink_kept)
     where
       by : IsAnswered status ⊎ (status ≡ NO_MEMORY) → IsOutcome order status ⊎ (status ≡ NO_MEMORY)
-      by (inl is) = let a = order_of ends is order ordered in inl (outcome status a.0 held order told meant a.1)
+      by (inl is) = let a = order_of ends is order ordered in inl (outcome status a.0 held (inputs_of order) (Says order) (says_ends status a.0 order) told meant a.1)
       by (inr s) = inr s

@@ -1,5 +1,5 @@
 -- What follows from a certificate that is right for the graph of a program.
-use Rattle.std.proofs.Common.{◌≡◌, ◌≤◌, ℕ, suc, ap, subst, ◌∙◌, arith, List, [], ◌∷◌, length, map, get_or, Bool, true, false, All, inl, inr, Some, None, Result, Ok, Err, IfOk, pos, refl}
+use Rattle.std.proofs.Common.{◌≡◌, ◌≤◌, ℕ, suc, ap, subst, ◌∙◌, arith, List, [], ◌∷◌, length, map, get_or, Bool, true, false, All, inl, inr, pos, refl}
 use Rattle.std.specs.Prelude.{◌⊎◌, ◌&&◌, nat_le, int_le}
 use Rattle.std.specs.List.{AllByRecursion}
 use Rattle.std.proofs.lemmas.Int.{ints}

@@ -1,5 +1,5 @@
 -- The bytes of a file of each kind have one meaning or a fault.
-use Rattle.std.proofs.Common.{◌≡◌, ◌∙◌, sym, Ok, Err, Some, None, Result, ◌⊎◌, inl, inr, refl, ℕ}
+use Rattle.std.proofs.Common.{◌≡◌, Ok, Err, Some, None, Result, ◌⊎◌, inl, inr, refl, ℕ}
 use Rattle.pc_text.specs.Bytes.{Bytes}
 use Rattle.pc_program.specs.declared.program.Program.{Program}
 use Rattle.pc_syntax.specs.Context.{content_of}

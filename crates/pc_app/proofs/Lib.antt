@@ -1,10 +1,13 @@
-pub mod WordLemmas
 pub mod FileLemmas
 pub mod OrderLemmas
 pub mod TextLemmas
 pub mod ScriptLemmas
 pub mod VerdictLemmas
 pub mod KindLemmas
+pub mod FactLemmas
+pub mod ChainLemmas
+pub mod EnoughLemmas
+pub mod TrialLemmas
 pub mod AnswerLemmas
 pub mod OnlyLemmas
 pub mod CauseLemmas

@@ -14,7 +14,8 @@ use Rattle.pc_app.specs.Answers.{Answers}
 use Rattle.pc_app.specs.Answers.Answers.{Known}
 use Rattle.pc_app.specs.Reading.{Stops, Answered, OrderIs, WordsAre}
 use Rattle.pc_app.specs.Silences.{IsLost, IsLostBehind, LacksFile}
-use Rattle.pc_app.specs.Words.{Order, IsOrder}
+use Rattle.pc_words.specs.Words.{Order}
+use Rattle.pc_words.specs.Taken.{Orders}
 
 -- why a call goes no further, for what is made of it
 stops_widen : (R S : ℕ → Bytes → Type 0) (L M : Type 0) → ((status : ℕ) (text : Bytes) → R status text → S status text) → (L → M) → (e : Stop) → Stops R L e → Stops S M e
@@ -52,7 +53,7 @@ source_goes_on A source other before middle now p le is r h =
     (λ status text a. IsRead p is a) (λ lost. inr (record { program = p; spelled = is; lost = still_lost other before middle now le lost })) r h
 
 -- words that are an order are answered as the order
-pub words_go_on : (words : List Bytes) (held : Bytes → Holding) (before now : ℕ) (order : Order) → IsOrder words order →
+pub words_go_on : (words : List Bytes) (held : Bytes → Holding) (before now : ℕ) (order : Order) → Orders words order →
     (r : Result Answer Stop) → OrderIs held before now order r → WordsAre words held before now r
 words_go_on words held before now order is r h =
     answered_widens _ (Answers words held) _ (LacksFile words held before now) (λ status text a. Known order is a) (λ l. record { order = order; named = is; lost = l }) r h

@@ -1,5 +1,4 @@
 -- Certificates for the graph of a program speak of the program.
-use Rattle.pc_program.specs.declared.program.Program.{Program}
 use Rattle.pc_graph.specs.Lowering.{graph}
 use Rattle.pc_graph.proofs.Bridge.{steps_correspond}
 use Rattle.pc_graph.proofs.Graphs.{graph_kept}

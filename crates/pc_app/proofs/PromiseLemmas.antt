@@ -14,10 +14,13 @@ use Rattle.pc_app.specs.declared.status.TheConstants.{DONE}
 use Rattle.pc_app.specs.Rulings.{ruling_status, ruling_text}
 use Rattle.pc_app.specs.Files.{OnFile}
 use Rattle.pc_app.specs.Inferred.{Inferred}
+use Rattle.pc_app.specs.Trials.{TrialAnswers}
 use Rattle.pc_app.specs.Kinds.{source_kind, script_kind, certificate_kind}
-use Rattle.pc_app.specs.Answers.{InferAnswers, CertifyAnswers, ReplayAnswers, RunAnswers, ShowAnswers, OnReplay, OnRun}
+use Rattle.pc_words.specs.declared.domains.FactsDomain.{FactsDomain}
+use Rattle.pc_words.specs.declared.domains.QuickDomain.{QuickDomain}
+use Rattle.pc_app.specs.Answers.{InferAnswers, CertifyAnswers, ReplayAnswers, RunAnswers, ShowAnswers, FactsAnswers, QuickAnswers, OnReplay, OnRun}
 use Rattle.pc_app.specs.Causes.{IsRuling, IsVerdict}
-use Rattle.pc_app.specs.Promises.{OfBytes, PrintedSuffices, PrintedIsExact, PrintedCovers, PrintedCertificate, PrintedRuling, PrintedAccepted, PrintedVerdict, PrintedProgram}
+use Rattle.pc_app.specs.Promises.{OfBytes, PrintedSuffices, PrintedIsExact, PrintedCovers, PrintedCertificate, PrintedRuling, PrintedAccepted, PrintedVerdict, PrintedProgram, PrintedFacts, PrintedEnough, PrintedTrial}
 use Rattle.pc_app.proofs.AnswerLemmas.{file_read, of_bytes, of_nothing}
 
 module _ (held : Holding) (bytes : Bytes) (status : ℕ) (text : Bytes) (old new : Option Bytes) (e : held ≡ Held bytes) (written : Appended old new text) where
@@ -65,6 +68,18 @@ module _ (held : Holding) (bytes : Bytes) (status : ℕ) (text : Bytes) (old new
       let r = file_read source_kind ShowAnswers held bytes status text e (λ l. omega arith) (λ l. omega arith) file in
       record { program = r.0; spelled = r.1; printed = is_written _ r.2.text_is }
 
+  pub facts_are_known : (domain : FactsDomain) → status ≡ DONE → OnFile source_kind (FactsAnswers domain) held status text → PrintedFacts domain bytes old new
+  facts_are_known domain done file =
+      let r = file_read source_kind (FactsAnswers domain) held bytes status text e (λ l. omega arith) (λ l. omega arith) file in
+      let a = r.2.facts in
+      record { program = r.0; spelled = r.1; rows = a.rows; known = a.known; printed = is_written _ a.printed }
+
+  pub quick_is_enough : (domain : QuickDomain) → status ≡ DONE → OnFile source_kind (QuickAnswers domain) held status text → PrintedEnough domain bytes old new
+  quick_is_enough domain done file =
+      let r = file_read source_kind (QuickAnswers domain) held bytes status text e (λ l. omega arith) (λ l. omega arith) file in
+      let a = r.2.quick in
+      record { program = r.0; spelled = r.1; condition = a.condition; enough = a.enough; printed = is_written _ a.printed }
+
   pub run_is_verdict : IsVerdict status → (script : Holding) → OnFile source_kind (OnRun script) held status text → OfBytes (λ of_script. PrintedVerdict bytes of_script status old new) script
   run_is_verdict told script file =
       let r = file_read source_kind (OnRun script) held bytes status text e (λ l. omega arith) (λ l. omega arith) file in
@@ -98,6 +113,19 @@ module _ (held : Holding) (bytes : Bytes) (status : ℕ) (text : Bytes) (old new
         printed = is_written _ c.2.text_is;
       })
       (λ e'. of_nothing certificate_kind (ReplayAnswers r.0) certificate status text e' r.2)
+
+pub trial_is_told : (loops status : ℕ) (text : Bytes) (old new : Option Bytes) → TrialAnswers loops status text → Appended old new text → PrintedTrial loops old new
+trial_is_told loops status text old new a written =
+    let t = a.trial in
+    record {
+      program = t.program;
+      spelled = t.spelled;
+      condition = t.condition;
+      inferred = t.inferred;
+      summary = t.summary;
+      size = t.size;
+      printed = subst (λ (z : Bytes). Appended old new z) t.printed written;
+    }
 
 done_is_accepted : (r : Ruling) → DONE ≡ ruling_status r → r ≡ answer.Accepted
 done_is_accepted answer.Accepted e = refl

@@ -18,9 +18,14 @@ use Rattle.pc_app.specs.declared.status.TheConstants.{DONE, USAGE}
 use Rattle.pc_app.specs.declared.limits.TheConstants.{CERTIFICATE_BYTES}
 use Rattle.pc_app.specs.Files.{OnFile}
 use Rattle.pc_app.specs.Kinds.{source_kind, script_kind, certificate_kind}
-use Rattle.pc_app.specs.Words.{Order, Infer, Certify, Replay, Run, Show, IsOrder, IsPlain}
+use Rattle.pc_words.specs.Words.{Order, Infer, Certify, Replay, Run, Facts, Quick, Show, Trial, Inputs, Made, Source, WithCertificate, WithScript, inputs_of}
+use Rattle.pc_words.specs.Taken.{AreCommand, Orders}
+use Rattle.pc_words.specs.declared.domains.FactsDomain.{FactsDomain}
+use Rattle.pc_words.specs.declared.domains.QuickDomain.{QuickDomain}
 use Rattle.pc_app.specs.Inferred.{Inferred}
-use Rattle.pc_app.specs.Texts.{usage}
+use Rattle.pc_app.specs.Known.{AreFacts}
+use Rattle.pc_app.specs.Enough.{AreEnough}
+use Rattle.pc_app.specs.Trials.{TrialAnswers}
 use Rattle.pc_app.specs.Rulings.{ruling_status, ruling_text}
 use Rattle.pc_app.specs.Verdicts.{verdict_status, verdict_text}
 
@@ -57,6 +62,16 @@ pub record ShowAnswers (p : Program) (status : ℕ) (text : Bytes) : Type 0 wher
   pub status_is : status ≡ DONE
   pub text_is : text ≡ program_text p.names p.body
 
+-- how `facts` answers a program: by what a domain knows at each point
+pub record FactsAnswers (domain : FactsDomain) (p : Program) (status : ℕ) (text : Bytes) : Type 0 where
+  pub facts : AreFacts domain p text
+  pub status_is : status ≡ DONE
+
+-- how `quick` answers a program: by a condition that a domain finds going back
+pub record QuickAnswers (domain : QuickDomain) (p : Program) (status : ℕ) (text : Bytes) : Type 0 where
+  pub quick : AreEnough domain p text
+  pub status_is : status ≡ DONE
+
 -- how a program is answered with a certificate, or with a script
 abbrev pub OnReplay : Holding → Program → ℕ → Bytes → Type 0
 OnReplay held p status text = OnFile certificate_kind (ReplayAnswers p) held status text
@@ -64,15 +79,43 @@ OnReplay held p status text = OnFile certificate_kind (ReplayAnswers p) held sta
 abbrev pub OnRun : Holding → Program → ℕ → Bytes → Type 0
 OnRun held p status text = OnFile (script_kind p.names.params) (RunAnswers p) held status text
 
+-- what the files of an order mean
+abbrev pub Given : Inputs → Type 0
+Given (Made loops) = Unit {0}
+Given (Source source) = Program
+Given (WithCertificate source certificate) = Program × Certificate
+Given (WithScript source script) = Program × Choosing
+
+-- how an order is answered, by what its files mean
+abbrev pub Says : (order : Order) → Given (inputs_of order) → ℕ → Bytes → Type 0
+Says (Infer source) = InferAnswers
+Says (Certify source) = CertifyAnswers
+Says (Replay source certificate) = λ given. ReplayAnswers given.0 given.1
+Says (Run source script) = λ given. RunAnswers given.0 given.1
+Says (Facts domain source) = FactsAnswers domain
+Says (Quick domain source) = QuickAnswers domain
+Says (Show source) = ShowAnswers
+Says (Trial loops) = λ given. TrialAnswers loops
+
+-- a program and the certificate, or the script, behind it
+abbrev pub OnCertificate : Holding → (Program × Certificate → ℕ → Bytes → Type 0) → Program → ℕ → Bytes → Type 0
+OnCertificate held A p = OnFile certificate_kind (λ c. A (p, c)) held
+
+abbrev pub OnScript : Holding → (Program × Choosing → ℕ → Bytes → Type 0) → Program → ℕ → Bytes → Type 0
+OnScript held A p = OnFile (script_kind p.names.params) (λ c. A (p, c)) held
+
+-- files are answered, one after the other, where their meanings are answered so
+abbrev pub OnInputs : (Bytes → Holding) → (inputs : Inputs) → (Given inputs → ℕ → Bytes → Type 0) → ℕ → Bytes → Type 0
+OnInputs held (Made loops) A = A tt
+OnInputs held (Source source) A = OnFile source_kind A (held source)
+OnInputs held (WithCertificate source certificate) A = OnFile source_kind (OnCertificate (held certificate) A) (held source)
+OnInputs held (WithScript source script) A = OnFile source_kind (OnScript (held script) A) (held source)
+
 -- how an order is answered
 abbrev pub OrderAnswers : (Bytes → Holding) → Order → ℕ → Bytes → Type 0
-OrderAnswers held (Infer source) status text = OnFile source_kind InferAnswers (held source) status text
-OrderAnswers held (Certify source) status text = OnFile source_kind CertifyAnswers (held source) status text
-OrderAnswers held (Replay source certificate) status text = OnFile source_kind (OnReplay (held certificate)) (held source) status text
-OrderAnswers held (Run source script) status text = OnFile source_kind (OnRun (held script)) (held source) status text
-OrderAnswers held (Show source) status text = OnFile source_kind ShowAnswers (held source) status text
+OrderAnswers held order = OnInputs held (inputs_of order) (Says order)
 
--- how words are answered
+-- how words are answered: those that order nothing by whatever is told of the use
 pub data Answers (words : List Bytes) (held : Bytes → Holding) (status : ℕ) (text : Bytes) : Type 0 where
-  Unknown : (IsPlain words → ⊥) → status ≡ USAGE → text ≡ usage → Answers words held status text
-  Known : (order : Order) → IsOrder words order → OrderAnswers held order status text → Answers words held status text
+  Unknown : (AreCommand words → ⊥) → status ≡ USAGE → Answers words held status text
+  Known : (order : Order) → Orders words order → OrderAnswers held order status text → Answers words held status text

@@ -6,7 +6,7 @@ use Rattle.pc_program.specs.declared.program.Program.{Program}
 use Rattle.pc_app.specs.declared.status.TheConstants.{DONE, FAILED, PAST}
 use Rattle.pc_app.specs.Files.{Kind, MayMean}
 use Rattle.pc_app.specs.Kinds.{source_kind, script_kind, certificate_kind}
-use Rattle.pc_app.specs.Words.{Order, Infer, Certify, Replay, Run, Show}
+use Rattle.pc_words.specs.Words.{Order, Inputs, Made, Source, WithCertificate, WithScript, inputs_of}
 
 -- what holds of the bytes that are held
 abbrev pub IsHeld : (Bytes → Type 0) → Holding → Type 0
@@ -32,37 +32,46 @@ pub record Behind (source : Holding) (P : Program → Type 0) : Type 0 where
   pub spelled : MayMean source_kind source program
   pub cause : P program
 
--- more bytes than its limit are held under a name of the order, of which the second counts only behind a program
+-- more bytes than its limit are held under a name, of which the second counts only behind a program
+abbrev pub AreTooLong : (Bytes → Holding) → Inputs → Type 0
+AreTooLong held (Made loops) = ⊥
+AreTooLong held (Source source) = IsOver source_kind (held source)
+AreTooLong held (WithCertificate source certificate) = IsOver source_kind (held source) ⊎ Behind (held source) (λ p. IsOver certificate_kind (held certificate))
+AreTooLong held (WithScript source script) = IsOver source_kind (held source) ⊎ Behind (held source) (λ p. IsOver (script_kind p.names.params) (held script))
+
+-- the source spells no program
+abbrev pub AreRefused : (Bytes → Holding) → Inputs → Type 0
+AreRefused held (Made loops) = ⊥
+AreRefused held (Source source) = IsMeaningless source_kind (held source)
+AreRefused held (WithCertificate source certificate) = IsMeaningless source_kind (held source)
+AreRefused held (WithScript source script) = IsMeaningless source_kind (held source)
+
+-- the source spells a program, and the certificate or the script is none
+abbrev pub AreMalformed : (Bytes → Holding) → Inputs → Type 0
+AreMalformed held (Made loops) = ⊥
+AreMalformed held (Source source) = ⊥
+AreMalformed held (WithCertificate source certificate) = Behind (held source) (λ p. IsMeaningless certificate_kind (held certificate))
+AreMalformed held (WithScript source script) = Behind (held source) (λ p. IsMeaningless (script_kind p.names.params) (held script))
+
+-- each file is what it is to be
+abbrev pub AreMeant : (Bytes → Holding) → Inputs → Type 0
+AreMeant held (Made loops) = Unit {0}
+AreMeant held (Source source) = IsMeant source_kind (held source)
+AreMeant held (WithCertificate source certificate) = Behind (held source) (λ p. IsMeant certificate_kind (held certificate))
+AreMeant held (WithScript source script) = Behind (held source) (λ p. IsMeant (script_kind p.names.params) (held script))
+
+-- the same of the files of an order
 abbrev pub OrderIsTooLong : (Bytes → Holding) → Order → Type 0
-OrderIsTooLong held (Infer source) = IsOver source_kind (held source)
-OrderIsTooLong held (Certify source) = IsOver source_kind (held source)
-OrderIsTooLong held (Replay source certificate) = IsOver source_kind (held source) ⊎ Behind (held source) (λ p. IsOver certificate_kind (held certificate))
-OrderIsTooLong held (Run source script) = IsOver source_kind (held source) ⊎ Behind (held source) (λ p. IsOver (script_kind p.names.params) (held script))
-OrderIsTooLong held (Show source) = IsOver source_kind (held source)
+OrderIsTooLong held order = AreTooLong held (inputs_of order)
 
--- the source of the order spells no program
 abbrev pub OrderIsRefused : (Bytes → Holding) → Order → Type 0
-OrderIsRefused held (Infer source) = IsMeaningless source_kind (held source)
-OrderIsRefused held (Certify source) = IsMeaningless source_kind (held source)
-OrderIsRefused held (Replay source certificate) = IsMeaningless source_kind (held source)
-OrderIsRefused held (Run source script) = IsMeaningless source_kind (held source)
-OrderIsRefused held (Show source) = IsMeaningless source_kind (held source)
+OrderIsRefused held order = AreRefused held (inputs_of order)
 
--- the source of the order spells a program, and the certificate or the script is none
 abbrev pub OrderIsMalformed : (Bytes → Holding) → Order → Type 0
-OrderIsMalformed held (Infer source) = ⊥
-OrderIsMalformed held (Certify source) = ⊥
-OrderIsMalformed held (Replay source certificate) = Behind (held source) (λ p. IsMeaningless certificate_kind (held certificate))
-OrderIsMalformed held (Run source script) = Behind (held source) (λ p. IsMeaningless (script_kind p.names.params) (held script))
-OrderIsMalformed held (Show source) = ⊥
+OrderIsMalformed held order = AreMalformed held (inputs_of order)
 
--- each file of the order is what it is to be
 abbrev pub OrderIsMeant : (Bytes → Holding) → Order → Type 0
-OrderIsMeant held (Infer source) = IsMeant source_kind (held source)
-OrderIsMeant held (Certify source) = IsMeant source_kind (held source)
-OrderIsMeant held (Replay source certificate) = Behind (held source) (λ p. IsMeant certificate_kind (held certificate))
-OrderIsMeant held (Run source script) = Behind (held source) (λ p. IsMeant (script_kind p.names.params) (held script))
-OrderIsMeant held (Show source) = IsMeant source_kind (held source)
+OrderIsMeant held order = AreMeant held (inputs_of order)
 
 -- the statuses of a ruling and of a verdict
 abbrev pub IsRuling : ℕ → Type 0
@@ -71,10 +80,13 @@ IsRuling status = (status ≡ DONE) ⊎ (status ≡ FAILED)
 abbrev pub IsVerdict : ℕ → Type 0
 IsVerdict status = (status ≡ DONE) ⊎ ((status ≡ FAILED) ⊎ (status ≡ PAST))
 
+-- the statuses where all files are read: a certificate is ruled on, a script gives a verdict
+abbrev pub IsEnd : Inputs → ℕ → Type 0
+IsEnd (Made loops) status = status ≡ DONE
+IsEnd (Source source) status = status ≡ DONE
+IsEnd (WithCertificate source certificate) status = IsRuling status
+IsEnd (WithScript source script) status = IsVerdict status
+
 -- the statuses of an order that comes to its end
 abbrev pub IsOutcome : Order → ℕ → Type 0
-IsOutcome (Infer source) status = status ≡ DONE
-IsOutcome (Certify source) status = status ≡ DONE
-IsOutcome (Replay source certificate) status = IsRuling status
-IsOutcome (Run source script) status = IsVerdict status
-IsOutcome (Show source) status = status ≡ DONE
+IsOutcome order status = IsEnd (inputs_of order) status

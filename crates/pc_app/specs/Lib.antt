@@ -1,8 +1,11 @@
-pub mod Words
 pub mod Texts
 pub mod Verdicts
 pub mod Rulings
 pub mod Inferred
+pub mod Checks
+pub mod Known
+pub mod Enough
+pub mod Trials
 pub mod Files
 pub mod Kinds
 pub mod Answers

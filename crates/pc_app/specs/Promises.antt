@@ -1,5 +1,5 @@
 -- What the top call promises, by its words, by what the store tells and what the sink tells, and by their counts of faults.
-use Rattle.std.specs.Prelude.{◌≡◌, ◌≢◌, ◌⊎◌, ◌≤◌, ℕ, Option, List, [], ◌∷◌, ◌++◌, length, Ok, codes}
+use Rattle.std.specs.Prelude.{◌≡◌, ◌≢◌, ◌≤◌, ℕ, Option, List, [], ◌∷◌, ◌++◌, length, Ok, codes}
 use Rattle.pc_ports.specs.Outside.{Holding, Untold, Nothing, Held, Rose, Appended, FrontAppended}
 use Rattle.pc_rows.specs.Linear.{Linear}
 use Rattle.pc_text.specs.Bytes.{Bytes}
@@ -9,6 +9,7 @@ use Rattle.pc_show.specs.Canonical.{program_text}
 use Rattle.pc_certificate.specs.Certificate.{Certificate, condition_of}
 use Rattle.pc_cert.specs.CertificateTexts.{IsTextOf}
 use Rattle.pc_cert.specs.Conditions.{condition_text}
+use Rattle.pc_facts.specs.Lines.{lines_from}
 use Rattle.pc_graph.specs.Lowering.{graph}
 use Rattle.pc_replay.specs.Accepts.{Accepts}
 use Rattle.pc_replay.specs.Rule.{ruling}
@@ -17,9 +18,18 @@ use Rattle.pc_runner.specs.Scripts.{Choosing, script_of}
 use Rattle.pc_runner.specs.declared.verdict.Verdict.{Verdict}
 use Rattle.pc_app.specs.declared.status.TheConstants.{STORE_FAILED, SINK_FAILED, NO_MEMORY}
 use Rattle.pc_app.specs.declared.limits.TheConstants.{CERTIFICATE_BYTES}
+use Rattle.pc_words.specs.declared.domains.FactsDomain.{FactsDomain}
 use Rattle.pc_app.specs.Rulings.{ruling_status, ruling_text}
-use Rattle.pc_app.specs.Inferred.{IsCondition, Suffices, IsNeeded, IsTameAndStraight, CoversGuesses}
-use Rattle.pc_app.specs.Words.{Order, IsOrder, files_of}
+use Rattle.pc_gen.specs.Made.{made}
+use Rattle.pc_gen.specs.Summary.{summary_text}
+use Rattle.pc_gen.specs.declared.summary.Summary.{Summary}
+use Rattle.pc_words.specs.declared.domains.QuickDomain.{QuickDomain}
+use Rattle.pc_app.specs.Enough.{IsEnough}
+use Rattle.pc_app.specs.Inferred.{IsCondition, Suffices, IsNeeded, IsTameAndStraight, CoversGuesses, Inferred}
+use Rattle.pc_app.specs.Trials.{IsSize}
+use Rattle.pc_app.specs.Known.{AreKnown}
+use Rattle.pc_words.specs.Words.{Order, files_of}
+use Rattle.pc_words.specs.Taken.{Orders}
 use Rattle.pc_app.specs.Verdicts.{verdict_status, verdict_text}
 use Rattle.pc_app.specs.Answers.{Answers}
 use Rattle.pc_app.specs.Silences.{LacksFile}
@@ -87,6 +97,34 @@ pub record PrintedProgram (bytes : Bytes) (old new : Option Bytes) : Type 0 wher
   pub spelled : Spells bytes program
   pub printed : Appended old new (program_text program.names program.body)
 
+-- the bytes of a source spell a program; what was appended is a line for each point of its graph, with rows that each state meets
+-- which some walk from an entry state brings there
+pub record PrintedFacts (domain : FactsDomain) (bytes : Bytes) (old new : Option Bytes) : Type 0 where
+  pub program : Program
+  pub spelled : Spells bytes program
+  pub rows : List (List Linear)
+  pub known : AreKnown domain program rows
+  pub printed : Appended old new (lines_from program.names.names (graph program).points 0 rows)
+
+-- the bytes of a source spell a program; what was appended is the text of a condition that a domain finds going back, which suffices
+pub record PrintedEnough (domain : QuickDomain) (bytes : Bytes) (old new : Option Bytes) : Type 0 where
+  pub program : Program
+  pub spelled : Spells bytes program
+  pub condition : List (List Linear)
+  pub enough : IsEnough domain program condition
+  pub printed : Appended old new (condition_text program.names.names condition)
+
+-- the made source with so many loops spells a program; what was appended tells how large it and its graph are and how many alternatives a
+-- condition has that is inferred for it, and then the condition
+pub record PrintedTrial (loops : ℕ) (old new : Option Bytes) : Type 0 where
+  pub program : Program
+  pub spelled : Spells (made loops) program
+  pub condition : List (List Linear)
+  pub inferred : Inferred program condition
+  pub summary : Summary
+  pub size : IsSize loops (made loops) program (length condition) summary
+  pub printed : Appended old new (summary_text summary ++ condition_text program.names.names condition)
+
 -- the bytes of a source spell a program, those of a script are one for it; the status and what was appended are those of the verdict on the machine's run
 pub record PrintedVerdict (source script : Bytes) (status : ℕ) (old new : Option Bytes) : Type 0 where
   pub program : Program
@@ -135,7 +173,7 @@ AreTold held (name ∷ names) = (held name ≢ Untold) × AreTold held names
 -- no other status answers the words, where the files that they name are told
 abbrev pub IsOnlyStatus : List Bytes → (Bytes → Holding) → ℕ → Type 0
 IsOnlyStatus words held status =
-    (other : ℕ) (text : Bytes) → Answers words held other text → ((order : Order) → IsOrder words order → AreTold held (files_of order)) → other ≡ status
+    (other : ℕ) (text : Bytes) → Answers words held other text → ((order : Order) → Orders words order → AreTold held (files_of order)) → other ≡ status
 
 -- no file that is named is told to be missing
 abbrev pub AreThere : (Bytes → Holding) → List Bytes → Type 0

@@ -11,7 +11,7 @@ use Rattle.pc_app.specs.Files.{Kind, MayMean, IsUnread}
 use Rattle.pc_app.specs.Kinds.{script_kind}
 use Rattle.pc_app.specs.Answers.{OrderAnswers, Answers}
 use Rattle.pc_app.specs.Silences.{IsLost, OrderIsLost, LacksFile}
-use Rattle.pc_app.specs.Words.{Order}
+use Rattle.pc_words.specs.Words.{Order}
 
 -- why a call goes no further: an answer, or a file that is lost; want of memory is free
 abbrev pub Stops : (ℕ → Bytes → Type 0) → Type 0 → Stop → Type 0

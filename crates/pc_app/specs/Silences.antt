@@ -5,7 +5,8 @@ use Rattle.pc_text.specs.Bytes.{Bytes}
 use Rattle.pc_program.specs.declared.program.Program.{Program}
 use Rattle.pc_app.specs.Files.{MayMean}
 use Rattle.pc_app.specs.Kinds.{source_kind}
-use Rattle.pc_app.specs.Words.{Order, Infer, Certify, Replay, Run, Show, IsOrder}
+use Rattle.pc_words.specs.Words.{Order, Inputs, Made, Source, WithCertificate, WithScript, inputs_of}
+use Rattle.pc_words.specs.Taken.{Orders}
 
 -- the reading of a file failed, or the store tells that it lacks the file
 abbrev pub IsLost : Holding → ℕ → ℕ → Type 0
@@ -17,17 +18,19 @@ pub record IsLostBehind (source other : Holding) (before now : ℕ) : Type 0 whe
   pub spelled : MayMean source_kind source program
   pub lost : IsLost other before now
 
--- the files of an order are read one after the other, and one of them is lost: a second file counts only behind a source that
--- is there, short enough and without a fault
+-- files are read one after the other, and one of them is lost: a second file counts only behind a source that is there, short
+-- enough and without a fault
+abbrev pub AreLost : (Bytes → Holding) → ℕ → ℕ → Inputs → Type 0
+AreLost held before now (Made loops) = ⊥
+AreLost held before now (Source source) = IsLost (held source) before now
+AreLost held before now (WithCertificate source certificate) = IsLost (held source) before now ⊎ IsLostBehind (held source) (held certificate) before now
+AreLost held before now (WithScript source script) = IsLost (held source) before now ⊎ IsLostBehind (held source) (held script) before now
+
 abbrev pub OrderIsLost : (Bytes → Holding) → ℕ → ℕ → Order → Type 0
-OrderIsLost held before now (Infer source) = IsLost (held source) before now
-OrderIsLost held before now (Certify source) = IsLost (held source) before now
-OrderIsLost held before now (Replay source certificate) = IsLost (held source) before now ⊎ IsLostBehind (held source) (held certificate) before now
-OrderIsLost held before now (Run source script) = IsLost (held source) before now ⊎ IsLostBehind (held source) (held script) before now
-OrderIsLost held before now (Show source) = IsLost (held source) before now
+OrderIsLost held before now order = AreLost held before now (inputs_of order)
 
 -- the words name a file that is lost
 pub record LacksFile (words : List Bytes) (held : Bytes → Holding) (before now : ℕ) : Type 0 where
   pub order : Order
-  pub named : IsOrder words order
+  pub named : Orders words order
   pub lost : OrderIsLost held before now order

@@ -10,9 +10,6 @@ use Rattle.pc_runner.specs.declared.fault.ScriptFault.TheVariants as script
 use Rattle.pc_cert.specs.declared.fault.CertFault.{CertFault}
 use Rattle.pc_cert.specs.declared.fault.CertFault.TheVariants as certificate
 
-abbrev pub usage : Bytes
-usage = codes "usage: precond infer F [--certificate]\n       precond replay F C\n       precond run F S\n       precond show F\n"
-
 abbrev pub source_too_long : Bytes
 source_too_long = codes "too long: source\n"
 

@@ -1,17 +1,22 @@
 //! What words are answered: a status and the whole text.
 
 ghost use Rattle.std.specs.Prelude.{◌≡◌, ℕ, List, map, string_bytes, IfOk};
+ghost use Rattle.std.specs.List.{AllByRecursion};
+ghost use Rattle.pc_gen.specs.Made.{IsLoops};
+ghost use Rattle.pc_words.specs.Words.{Order, IsOrder, IsPlain, inputs_of, loops_in, ordered};
 ghost use Rattle.pc_app.specs.Reading.{OrderIs, WordsAre};
-ghost use Rattle.pc_app.specs.Words.{ordered};
 
+use crate::facts::answer_to_facts;
 use crate::infer::{answer_to_certify, answer_to_infer};
+use crate::quick::answer_to_quick;
 use crate::replay::answer_to_replay;
 use crate::run::answer_to_run;
 use crate::show::answer_to_show;
 use crate::status::USAGE;
-use crate::words::{Command, command_of};
+use crate::trial::answer_to_trial;
 use pc_ports::Store;
 use pc_text::{NoMemory, Text};
+use pc_words::{Command, command_of, taken, usage};
 use std::alloc::Global;
 
 /// An answer: the status, and the whole text that is to be written.
@@ -53,11 +58,43 @@ pub(crate) fn answer_to_words<S: Store>(
 {
     match command_of(words) {
         Some(command) => answer_to_command(alloc, command, store),
-        None => Ok(one_line(
-            alloc,
-            USAGE,
-            b"usage: precond infer F [--certificate]\n       precond replay F C\n       precond run F S\n       precond show F\n",
-        )?),
+        None => answer_to_others(alloc, words, store),
+    }
+}
+
+/// The answer to words in no plain form: that of the plain form that `clap` takes them as, or how
+/// the program is used.
+fn answer_to_others<S: Store>(
+    alloc: Global,
+    words: &[String],
+    store: &mut S,
+) -> Result<Answer, Stop>
+    requires { IsPlain (map string_bytes words.now) → ⊥ }
+    ensures answered { WordsAre (map string_bytes words.now) (S.holding store.old) (S.faults store.old) (S.faults store.new) result }
+    ensures kept { (name : List ℕ) → S.holding store.new name ≡ S.holding store.old name }
+{
+    match taken(alloc, words)? {
+        Some(list) => answer_to_taken(alloc, list.as_slice(), store),
+        None => Ok(Answer {
+            status: USAGE,
+            text: usage(alloc, words)?,
+        }),
+    }
+}
+
+/// The answer to a list of words that others are taken as.
+fn answer_to_taken<S: Store>(
+    alloc: Global,
+    list: &[String],
+    store: &mut S,
+) -> Result<Answer, Stop>
+    requires { IsPlain (map string_bytes list.now) }
+    ensures answered { (order : Order) → IsOrder (map string_bytes list.now) order → OrderIs (S.holding store.old) (S.faults store.old) (S.faults store.new) order result }
+    ensures kept { (name : List ℕ) → S.holding store.new name ≡ S.holding store.old name }
+{
+    match command_of(list) {
+        Some(command) => answer_to_command(alloc, command, store),
+        None => unreachable!(),
     }
 }
 
@@ -67,6 +104,7 @@ fn answer_to_command<S: Store>(
     command: Command<'_>,
     store: &mut S,
 ) -> Result<Answer, Stop>
+    requires { AllByRecursion IsLoops (loops_in (inputs_of (ordered command.entry))) }
     ensures answered { OrderIs (S.holding store.old) (S.faults store.old) (S.faults store.new) (ordered command.entry) result }
     ensures kept { (name : List ℕ) → S.holding store.new name ≡ S.holding store.old name }
 {
@@ -78,7 +116,10 @@ fn answer_to_command<S: Store>(
             certificate,
         } => answer_to_replay(alloc, source, certificate, store),
         Command::Run { source, script } => answer_to_run(alloc, source, script, store),
+        Command::Facts { domain, source } => answer_to_facts(alloc, domain, source, store),
+        Command::Quick { domain, source } => answer_to_quick(alloc, domain, source, store),
         Command::Show { source } => answer_to_show(alloc, source, store),
+        Command::Trial { loops } => Ok(answer_to_trial(alloc, loops)?),
     }
 }
 

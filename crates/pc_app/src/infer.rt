@@ -8,7 +8,7 @@ ghost use Rattle.pc_app.specs.Inferred.{Inferred};
 ghost use Rattle.pc_app.specs.Answers.{InferAnswers, CertifyAnswers};
 ghost use Rattle.pc_app.specs.Reading.{OrderIs};
 ghost use Rattle.pc_app.specs.declared.limits.TheConstants.{ALTERNATIVES};
-ghost use Rattle.pc_app.specs.Words.{Infer, Certify};
+ghost use Rattle.pc_words.specs.Words.{Infer, Certify};
 
 use crate::answer::{Answer, Stop};
 use crate::files::source_in;
@@ -71,7 +71,7 @@ fn certify_program(alloc: Global, program: &Program) -> Result<Answer, NoMemory>
 }
 
 /// The certificate that is inferred for a program.
-fn certificate_of(alloc: Global, program: &Program) -> Result<Certificate, NoMemory>
+pub(crate) fn certificate_of(alloc: Global, program: &Program) -> Result<Certificate, NoMemory>
     ensures inferred { IfOk result (λ c. Inferred program.now (condition_of c)) }
     ensures accepted { IfOk result (Accepts (graph program.now)) }
     ensures showable { IfOk result IsShowable }

@@ -2,11 +2,13 @@
 #![tactic(auto)]
 
 mod answer;
+mod facts;
 mod files;
 mod infer;
 mod laws;
 mod limits;
 mod malformed;
+mod quick;
 mod refusal;
 mod replay;
 mod ruling;
@@ -14,8 +16,8 @@ mod run;
 mod service;
 mod show;
 mod status;
+mod trial;
 mod verdict;
-mod words;
 
 pub use laws::{accepted_programs_are_safe, infer_is_exact};
 pub use limits::{ALTERNATIVES, CERTIFICATE_BYTES, SCRIPT_BYTES, SOURCE_BYTES};

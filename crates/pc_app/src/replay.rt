@@ -4,7 +4,7 @@ ghost use Rattle.std.specs.Prelude.{◌≡◌, ◌≤◌, ℕ, List, IfOk};
 ghost use Rattle.pc_graph.specs.Lowering.{graph};
 ghost use Rattle.pc_app.specs.Answers.{OnReplay, ReplayAnswers};
 ghost use Rattle.pc_app.specs.Reading.{OrderIs, WithFile};
-ghost use Rattle.pc_app.specs.Words.{Replay};
+ghost use Rattle.pc_words.specs.Words.{Replay};
 
 use crate::answer::{Answer, Stop};
 use crate::files::{certificate_in, source_in};

@@ -3,7 +3,7 @@
 ghost use Rattle.std.specs.Prelude.{◌≡◌, ◌≤◌, ℕ, List};
 ghost use Rattle.pc_app.specs.Answers.{OnRun};
 ghost use Rattle.pc_app.specs.Reading.{OrderIs, WithFile};
-ghost use Rattle.pc_app.specs.Words.{Run};
+ghost use Rattle.pc_words.specs.Words.{Run};
 
 use crate::answer::{Answer, Stop};
 use crate::files::{script_in, source_in};

@@ -2,10 +2,13 @@
 
 ghost use Rattle.std.specs.Prelude.{◌≡◌, ◌↔◌, ◌⊎◌, ℕ, List, map, string_bytes};
 ghost use Rattle.pc_ports.specs.Outside.{Rose};
-ghost use Rattle.pc_app.specs.Words.{Order, IsOrder, IsInfer, IsCertify, IsReplay, IsRun, IsShow, IsPlain, files_of};
+ghost use Rattle.pc_words.specs.Words.{Order, files_of};
+ghost use Rattle.pc_words.specs.Taken.{AreCommand, Orders, IsInfer, IsCertify, IsReplay, IsRun, IsFacts, IsQuick, IsShow, IsTrial};
+ghost use Rattle.pc_words.specs.declared.domains.FactsDomain.{FactsDomain};
+ghost use Rattle.pc_words.specs.declared.domains.QuickDomain.{QuickDomain};
 ghost use Rattle.pc_app.specs.Silences.{LacksFile};
 ghost use Rattle.pc_app.specs.Causes.{IsRuling, IsVerdict, OrderIsTooLong, OrderIsRefused, OrderIsMalformed, OrderIsMeant, IsOutcome};
-ghost use Rattle.pc_app.specs.Promises.{OfBytes, PrintedSuffices, PrintedIsExact, PrintedCovers, PrintedCertificate, PrintedRuling, PrintedAccepted, PrintedVerdict, PrintedProgram, AreTold, AreThere, IsOnlyStatus, IsWritten, IsAnswered, HasAnswered, IsCutOff, Ends};
+ghost use Rattle.pc_app.specs.Promises.{OfBytes, PrintedSuffices, PrintedIsExact, PrintedCovers, PrintedCertificate, PrintedRuling, PrintedAccepted, PrintedVerdict, PrintedProgram, PrintedFacts, PrintedEnough, PrintedTrial, AreTold, AreThere, IsOnlyStatus, IsWritten, IsAnswered, HasAnswered, IsCutOff, Ends};
 
 use crate::answer::{Answer, Stop, answer_to_words};
 use crate::status::{
@@ -24,12 +27,22 @@ use std::alloc::Global;
 /// - `replay F C`: the ruling on the certificate `C` for the source `F`, and where it is accepted
 ///   its condition;
 /// - `run F S`: the verdict on the run of the source `F` over the script `S`;
-/// - `show F`: the canonical text of the source `F`.
+/// - `facts F --domain=boxes` or `polyhedra`: for each point of the source `F` what the domain
+///   knows there;
+/// - `quick F --domain=rows` or `boxes`: the condition on the entry states of the source `F` that
+///   the domain finds going back once;
+/// - `show F`: the canonical text of the source `F`;
+/// - `trial N`: how large the made source with `N` loops is, and its condition.
+///
+/// Words in none of these forms are asked of `clap`, and those that it takes are answered as the
+/// form that its answer is written as.
 ///
 /// An answer ends with [`DONE`], but a refused certificate and a violated assertion with
 /// [`FAILED`](crate::FAILED), and a run whose values leave the range with [`PAST`](crate::PAST).
 /// What is written with each other status, and when it comes, stands with the statuses.
 pub fn serve<S: Store, K: Sink>(alloc: Global, words: &[String], store: &mut S, out: &mut K) -> u8
+    // In all clauses words order something in its plain form, or, where they are in none, as `clap` takes them.
+    //
     // Words `infer F`, done: the bytes of F spell a program, a condition on its entry states was
     // printed, and every entry state that meets it is safe.
     ensures sound { (name : List ℕ) → IsInfer (map string_bytes words.now) name → result ≡ DONE →
@@ -71,6 +84,24 @@ pub fn serve<S: Store, K: Sink>(alloc: Global, words: &[String], store: &mut S, 
     ensures shown { (name : List ℕ) → IsShow (map string_bytes words.now) name → result ≡ DONE →
         OfBytes (λ bytes. PrintedProgram bytes (K.written out.old) (K.written out.new)) (S.holding store.old name) }
 
+    // Words `facts F --domain=..`, done: a line for each point of the program's graph, with rows that each state meets
+    // which some walk from an entry state brings there. With boxes, where the program has no loops, they are exactly
+    // the rows of the box at the point.
+    ensures known { (domain : FactsDomain) (name : List ℕ) → IsFacts (map string_bytes words.now) domain name → result ≡ DONE →
+        OfBytes (λ bytes. PrintedFacts domain bytes (K.written out.old) (K.written out.new)) (S.holding store.old name) }
+
+    // Words `quick F --domain=..`, done: a condition of at most one line was printed, and every entry state that meets
+    // it is safe. With rows, on a tame program without loops, every state that meets what is needed at the entry meets
+    // it; with boxes, on a tame and straight program without two variables in a right side or in a row of an assertion,
+    // exactly the safe entry states do.
+    ensures enough { (domain : QuickDomain) (name : List ℕ) → IsQuick (map string_bytes words.now) domain name → result ≡ DONE →
+        OfBytes (λ bytes. PrintedEnough domain bytes (K.written out.old) (K.written out.new)) (S.holding store.old name) }
+
+    // Words `trial N`, done: the made source spells a program; how large both are and how many alternatives the
+    // condition has was printed, and then the condition, of which holds what holds of `infer`.
+    ensures trial { (loops : ℕ) → IsTrial (map string_bytes words.now) loops → result ≡ DONE →
+        PrintedTrial loops (K.written out.old) (K.written out.new) }
+
     // Each answer is written whole.
     ensures answered { IsAnswered result →
         HasAnswered (map string_bytes words.now) (S.holding store.old) result (K.written out.old) (K.written out.new) }
@@ -78,20 +109,20 @@ pub fn serve<S: Store, K: Sink>(alloc: Global, words: &[String], store: &mut S, 
     // Where the files are told, no other status answers the words: each comes exactly where its cause stands.
     ensures only { IsAnswered result → IsOnlyStatus (map string_bytes words.now) (S.holding store.old) result }
 
-    // Usage exactly for words in no plain form.
-    ensures usage { IsAnswered result → (result ≡ USAGE) ↔ (IsPlain (map string_bytes words.now) → ⊥) }
+    // How the program is used exactly for words that are in no plain form and that `clap` does not take.
+    ensures usage { IsAnswered result → (result ≡ USAGE) ↔ (AreCommand (map string_bytes words.now) → ⊥) }
 
     // Where the files are told. Too long exactly where more bytes than its limit are held under a name:
     // that of the source, or the other behind a source that is read.
-    ensures too_long { (order : Order) → IsOrder (map string_bytes words.now) order → AreTold (S.holding store.old) (files_of order) →
+    ensures too_long { (order : Order) → Orders (map string_bytes words.now) order → AreTold (S.holding store.old) (files_of order) →
         IsAnswered result → (result ≡ TOO_LONG) ↔ OrderIsTooLong (S.holding store.old) order }
 
     // Refused exactly where the bytes of the source spell no program.
-    ensures refused { (order : Order) → IsOrder (map string_bytes words.now) order → AreTold (S.holding store.old) (files_of order) →
+    ensures refused { (order : Order) → Orders (map string_bytes words.now) order → AreTold (S.holding store.old) (files_of order) →
         IsAnswered result → (result ≡ REFUSED) ↔ OrderIsRefused (S.holding store.old) order }
 
     // Malformed exactly where a source is read, and the certificate or the script behind it is none.
-    ensures malformed { (order : Order) → IsOrder (map string_bytes words.now) order → AreTold (S.holding store.old) (files_of order) →
+    ensures malformed { (order : Order) → Orders (map string_bytes words.now) order → AreTold (S.holding store.old) (files_of order) →
         IsAnswered result → (result ≡ MALFORMED) ↔ OrderIsMalformed (S.holding store.old) order }
 
     // The faults outside have their causes; a second file is lost only behind a source that may be read.
@@ -103,13 +134,13 @@ pub fn serve<S: Store, K: Sink>(alloc: Global, words: &[String], store: &mut S, 
     ensures unwritten { (result ≡ STORE_FAILED) ⊎ (result ≡ NO_MEMORY) → K.written out.new ≡ K.written out.old }
 
     // Where nothing outside fails and the files are there, every call is answered, but for want of memory.
-    ensures answers { (order : Order) → IsOrder (map string_bytes words.now) order → AreThere (S.holding store.old) (files_of order) →
+    ensures answers { (order : Order) → Orders (map string_bytes words.now) order → AreThere (S.holding store.old) (files_of order) →
         (Rose (S.faults store.old) (S.faults store.new) → ⊥) → (Rose (K.faults out.old) (K.faults out.new) → ⊥) →
         IsAnswered result ⊎ (result ≡ NO_MEMORY) }
 
     // Where nothing outside fails, files that are held, short enough and what they are to be come to the
     // order's end, but for want of memory.
-    ensures complete { (order : Order) → IsOrder (map string_bytes words.now) order → AreTold (S.holding store.old) (files_of order) →
+    ensures complete { (order : Order) → Orders (map string_bytes words.now) order → AreTold (S.holding store.old) (files_of order) →
         OrderIsMeant (S.holding store.old) order →
         (Rose (S.faults store.old) (S.faults store.new) → ⊥) → (Rose (K.faults out.old) (K.faults out.new) → ⊥) →
         IsOutcome order result ⊎ (result ≡ NO_MEMORY) }

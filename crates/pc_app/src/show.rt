@@ -2,7 +2,7 @@
 
 ghost use Rattle.std.specs.Prelude.{◌≡◌, ℕ, List};
 ghost use Rattle.pc_app.specs.Reading.{OrderIs};
-ghost use Rattle.pc_app.specs.Words.{Show};
+ghost use Rattle.pc_words.specs.Words.{Show};
 
 use crate::answer::{Answer, Stop};
 use crate::files::source_in;

@@ -12,7 +12,7 @@ use Rattle.pc_rows.specs.Readers.{terms_of, sum_over}
 use Rattle.pc_box.specs.declared.interval.Interval.{Interval}
 use Rattle.pc_box.specs.Intervals.{Holds, is_hollow, cut}
 use Rattle.pc_box.specs.Boxes.{Bounded, Box, interval_at, HasBounds, HasBox, put}
-use Rattle.pc_box.specs.Forward.{with_intervals, narrowed, cut_terms, cut_row, cut_rows}
+use Rattle.pc_box.specs.Forward.{with_intervals, narrowed, cut_terms, cut_row, by_rows, cut_rows}
 use Rattle.pc_box.proofs.Ends.{cutting_is_exact, not_hollow}
 use Rattle.pc_box.proofs.Tables.{put_same, put_other}
 use Rattle.pc_box.proofs.Walks.{value_is_walk, terms_are_some}
@@ -33,7 +33,7 @@ module _ (s : State) where
       by true e = absurd (cc)
       by false e = has_put b.intervals x i s s has here (λ v other. refl)
 
-  has_cut_terms : (b : Bounded) (c : ℤ) (ts : List (ℕ × ℤ)) → HasBounds b.intervals s → Each (λ t. t.1 ≢ pos 0) ts → pos 0 ≤ℤ sum_over c ts s → HasBox (cut_terms b c ts) s
+  pub has_cut_terms : (b : Bounded) (c : ℤ) (ts : List (ℕ × ℤ)) → HasBounds b.intervals s → Each (λ t. t.1 ≢ pos 0) ts → pos 0 ≤ℤ sum_over c ts s → HasBox (cut_terms b c ts) s
   has_cut_terms b c [] has some h = by (int_lt c (pos 0)) refl
     where
       by : (low : Bool) → int_lt c (pos 0) ≡ low → HasBox (cond low None (Some b)) s
@@ -44,7 +44,7 @@ module _ (s : State) where
       has_narrowed b t.0 (cut t.1 c (interval_at b.intervals t.0)) has ((cutting_is_exact t.1 c (interval_at b.intervals t.0) (at s t.0) some.0).1 (has t.0, meets))
   has_cut_terms b c (t ∷ u ∷ ts) has some h = has
 
-  has_cut_row : (b : Box) (r : Linear) → HasBox b s → Meets s r → HasBox (cut_row b r) s
+  pub has_cut_row : (b : Box) (r : Linear) → HasBox b s → Meets s r → HasBox (cut_row b r) s
   has_cut_row None r has meets = absurd has
   has_cut_row (Some b) r has meets = has_cut_terms b r.constant (terms_of r) has (terms_are_some r) (subst (λ (z : ℤ). pos 0 ≤ℤ z) (value_is_walk r s) meets)
 
@@ -54,20 +54,14 @@ module _ (s : State) where
 
 -- ---- how a box is cut, row by row
 
-one_term : (b : Bounded) (c : ℤ) (ts : List (ℕ × ℤ)) (t : ℕ × ℤ) → length ts ≡ 1 → slice_get ts 0 ≡ Some t → cut_terms b c ts ≡ narrowed b t.0 (cut t.1 c (interval_at b.intervals t.0))
+pub one_term : (b : Bounded) (c : ℤ) (ts : List (ℕ × ℤ)) (t : ℕ × ℤ) → length ts ≡ 1 → slice_get ts 0 ≡ Some t → cut_terms b c ts ≡ narrowed b t.0 (cut t.1 c (interval_at b.intervals t.0))
 one_term b c [] t long at = absurd (cc)
 one_term b c (u ∷ []) t long at = let same : u ≡ t = cc in ap (λ (z : ℕ × ℤ). narrowed b z.0 (cut z.1 c (interval_at b.intervals z.0))) same
 one_term b c (u ∷ w ∷ ts) t long at = absurd (omega arith)
 
-pub cut_hollow : (b : Bounded) (c : ℤ) (ts : List (ℕ × ℤ)) (t : ℕ × ℤ) → length ts ≡ 1 → slice_get ts 0 ≡ Some t → is_hollow (cut t.1 c (interval_at b.intervals t.0)) ≡ true → cut_terms b c ts ≡ None
-cut_hollow b c ts t long at hollow = one_term b c ts t long at ∙ rw hollow refl
+module _ (step : Box → Linear → Box) where
+  pub next_row : (rows : List Linear) (k : ℕ) (r : Linear) (b new whole : Box) → slice_get rows k ≡ Some r → new ≡ step b r → by_rows step b (drop k rows) ≡ whole → by_rows step new (drop (k + 1) rows) ≡ whole
+  next_row rows k r b new whole at is h = ap (λ (z : Box). by_rows step z (drop (k + 1) rows)) is ∙ sym (ap (by_rows step b) (drop_got rows k r at)) ∙ h
 
-pub cut_solid : (b : Bounded) (c : ℤ) (ts : List (ℕ × ℤ)) (t : ℕ × ℤ) → length ts ≡ 1 → slice_get ts 0 ≡ Some t → is_hollow (cut t.1 c (interval_at b.intervals t.0)) ≡ false →
-    cut_terms b c ts ≡ Some (with_intervals b (put b.intervals t.0 (cut t.1 c (interval_at b.intervals t.0))))
-cut_solid b c ts t long at solid = one_term b c ts t long at ∙ rw solid refl
-
-pub next_row : (rows : List Linear) (k : ℕ) (r : Linear) (b new whole : Box) → slice_get rows k ≡ Some r → new ≡ cut_row b r → cut_rows b (drop k rows) ≡ whole → cut_rows new (drop (k + 1) rows) ≡ whole
-next_row rows k r b new whole at is h = ap (λ (z : Box). cut_rows z (drop (k + 1) rows)) is ∙ sym (ap (cut_rows b) (drop_got rows k r at)) ∙ h
-
-pub no_row : (rows : List Linear) (k : ℕ) (b whole : Box) → length rows ≤ k → cut_rows b (drop k rows) ≡ whole → b ≡ whole
-no_row rows k b whole le h = sym (ap (cut_rows b) (drop_all k rows le)) ∙ h
+  pub no_row : (rows : List Linear) (k : ℕ) (b whole : Box) → length rows ≤ k → by_rows step b (drop k rows) ≡ whole → b ≡ whole
+  no_row rows k b whole le h = sym (ap (by_rows step b) (drop_all k rows le)) ∙ h

@@ -129,15 +129,15 @@ few_ends i = let a = one i.least in let b = one i.greatest in omega arith
 
 -- ---- cuts
 
-raised_exact : (m : Option ℤ) (n x : ℤ) → IsNotBelow (Some (raised m n)) x ↔ (IsNotBelow m x × (n ≤ℤ x))
+pub raised_exact : (m : Option ℤ) (n x : ℤ) → IsNotBelow (Some (raised m n)) x ↔ (IsNotBelow m x × (n ≤ℤ x))
 raised_exact None n x = ((λ h. (tt, h)), (λ h. h.1))
 raised_exact (Some m) n x = ((λ h. (grind (arith, ints), grind (arith, ints))), (λ h. let low = h.0 in let high = h.1 in grind (arith, ints)))
 
-lowered_exact : (m : Option ℤ) (n x : ℤ) → IsNotAbove (Some (lowered m n)) x ↔ (IsNotAbove m x × (x ≤ℤ n))
+pub lowered_exact : (m : Option ℤ) (n x : ℤ) → IsNotAbove (Some (lowered m n)) x ↔ (IsNotAbove m x × (x ≤ℤ n))
 lowered_exact None n x = ((λ h. (tt, h)), (λ h. h.1))
 lowered_exact (Some m) n x = ((λ h. (grind (arith, ints), grind (arith, ints))), (λ h. let low = h.0 in let high = h.1 in grind (arith, ints)))
 
-cut_positive : (k : ℕ) (c : ℤ) (i : Interval) → cut (pos (suc k)) c i ≡ record { least = Some (raised i.least (neg_ℤ (int_div_euclid c (pos (suc k))))); greatest = i.greatest }
+pub cut_positive : (k : ℕ) (c : ℤ) (i : Interval) → cut (pos (suc k)) c i ≡ record { least = Some (raised i.least (neg_ℤ (int_div_euclid c (pos (suc k))))); greatest = i.greatest }
 cut_positive k c i = let positive : int_lt (pos 0) (pos (suc k)) ≡ true = grind (arith, ints) in rw positive refl
 
 pub cutting_is_exact : CuttingIsExact

@@ -10,3 +10,14 @@ pub mod Widening
 pub mod Telling
 pub mod Viewing
 pub mod Answering
+pub mod Intersecting
+pub mod Claims
+pub mod Assigned
+pub mod Enters
+pub mod Backs
+pub mod Small
+pub mod Growing
+pub mod Needed
+pub mod Sharp
+pub mod BackFolds
+pub mod Exactly

@@ -1,19 +1,23 @@
 -- Quotients that are rounded down.
 use Rattle.std.proofs.Common.{◌≡◌, ◌∙◌, ℕ, suc, ◌-◌, ◌*◌, ◌/◌, ◌%◌, ◌≤◌, ℤ, pos, negsuc, ◌+ℤ◌, ◌*ℤ◌, neg_ℤ, ◌≤ℤ◌, sym, ap, arith}
-use Rattle.std.specs.Prelude.{◌↔◌}
+use Rattle.std.specs.Prelude.{◌↔◌, unsigned_abs}
 use Rattle.std.specs.Int.{int_div_euclid}
 use Rattle.std.proofs.Math.Nat.{div-le_self, div-add-mod, mul-suc}
 use Rattle.std.proofs.lemmas.Int.{ints, by_lt_z}
 use Rattle.std.proofs.lemmas.Nat.{mod_below}
+use Rattle.pc_rows.specs.Bounds.{IsWithin}
 use Rattle.pc_rows.specs.Linear.{InRange}
 use Rattle.pc_rows.proofs.Ring.{mul_add, mul_comm, mul_neg, mul_le, product_not_negative}
 
 -- a quotient is not greater than what is divided
+pub quotient_within : (k : ℕ) (c a : ℤ) → pos 1 ≤ℤ a → IsWithin k c → IsWithin k (int_div_euclid c a)
+quotient_within k (pos n) (pos m) h fits = let le = div-le_self n m in omega arith
+quotient_within k (negsuc n) (pos m) h fits = let le = div-le_self n m in omega arith
+quotient_within k (pos n) (negsuc m) h fits = absurd (omega (arith, ints))
+quotient_within k (negsuc n) (negsuc m) h fits = absurd (omega (arith, ints))
+
 pub quotient_in_range : (c a : ℤ) → pos 1 ≤ℤ a → InRange c → InRange (int_div_euclid c a)
-quotient_in_range (pos n) (pos m) h fits = let le = div-le_self n m in omega arith
-quotient_in_range (negsuc n) (pos m) h fits = let le = div-le_self n m in omega arith
-quotient_in_range (pos n) (negsuc m) h fits = absurd (omega (arith, ints))
-quotient_in_range (negsuc n) (negsuc m) h fits = absurd (omega (arith, ints))
+quotient_in_range c a h fits = let w = quotient_within (unsigned_abs c) c a h (omega arith) in omega arith
 
 -- what is divided is the product of the divisor with the quotient, and a rest below the divisor
 rest_of : (k : ℕ) (c : ℤ) → (r : ℕ) × (r ≤ k) × (c ≡ pos (suc k) *ℤ int_div_euclid c (pos (suc k)) +ℤ pos r)

@@ -24,13 +24,13 @@ use Rattle.pc_box.proofs.Tables.{at_tabulated, past_tabulated, within_or_past, i
 
 -- ---- the entry
 
-before_stays : (n : ℕ) (s : State) (v : ℕ) → v < n → at (zero_from n s) v ≡ at s v
+pub before_stays : (n : ℕ) (s : State) (v : ℕ) → v < n → at (zero_from n s) v ≡ at s v
 before_stays n [] v lt = refl
 before_stays zero (x ∷ s) v lt = absurd (omega arith)
 before_stays (suc n) (x ∷ s) zero lt = refl
 before_stays (suc n) (x ∷ s) (suc v) lt = before_stays n s v (omega arith)
 
-below_tells : (v n : ℕ) → ((nat_lt v n ≡ true) × (v < n)) ⊎ ((nat_lt v n ≡ false) × (n ≤ v))
+pub below_tells : (v n : ℕ) → ((nat_lt v n ≡ true) × (v < n)) ⊎ ((nat_lt v n ≡ false) × (n ≤ v))
 below_tells v n = by (nat_lt v n) refl
   where
     by : (b : Bool) → nat_lt v n ≡ b → ((b ≡ true) × (v < n)) ⊎ ((b ≡ false) × (n ≤ v))

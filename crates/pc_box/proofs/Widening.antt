@@ -15,7 +15,7 @@ use Rattle.pc_box.proofs.Steps.{has_join}
 use Rattle.pc_box.proofs.Tables.{all_true, false_some, within_or_past, past_end, at_tabulated, tabulated_long, in_steadies, counted_most, counted_same, counted_fewer}
 
 -- a box within another has no more states
-within_has : (a b : Bounded) → are_within a.intervals b.intervals ≡ true → (s : State) → HasBounds a.intervals s → HasBounds b.intervals s
+pub within_has : (a b : Bounded) → are_within a.intervals b.intervals ≡ true → (s : State) → HasBounds a.intervals s → HasBounds b.intervals s
 within_has a b w s has v = by (within_or_past (length b.intervals) v)
   where
     by : (v < length b.intervals) ⊎ (length b.intervals ≤ v) → Holds (interval_at b.intervals v) (at s v)

@@ -34,10 +34,13 @@ abbrev pub cut_row : Box → Linear → Box
 cut_row None r = None
 cut_row (Some b) r = cut_terms b r.constant (terms_of r)
 
--- the rows are taken in order
+-- what rows make of a box, one after the other
+abbrev pub by_rows : (Box → Linear → Box) → Box → List Linear → Box
+by_rows step b [] = b
+by_rows step b (r ∷ rows) = by_rows step (step b r) rows
+
 abbrev pub cut_rows : Box → List Linear → Box
-cut_rows b [] = b
-cut_rows b (r ∷ rows) = cut_rows (cut_row b r) rows
+cut_rows b rows = by_rows cut_row b rows
 
 -- ---- assignments
 

@@ -4,4 +4,7 @@ pub mod Forms
 pub mod Forward
 pub mod Views
 pub mod BoxAt
+pub mod Meeting
+pub mod Backward
+pub mod Exact
 pub mod Laws

@@ -62,6 +62,25 @@ impl Bounds {
         })
     }
 
+    /// The intervals of the variables, in order.
+    pub(crate) fn intervals(&self) -> &Intervals
+        ensures value { result.now ≡ self.now.intervals }
+        ensures few { length self.now.intervals ≤ VARIABLES }
+    {
+        &self.intervals
+    }
+
+    /// The bounds with other intervals.
+    pub(crate) fn with_intervals(&self, intervals: Intervals) -> Bounds
+        requires { length intervals ≤ VARIABLES }
+        ensures { result ≡ with_intervals self.now intervals }
+    {
+        Bounds {
+            hint: self.hint,
+            intervals,
+        }
+    }
+
     /// The interval of a variable.
     pub(crate) fn at(&self, v: u32) -> Interval
         ensures { result ≡ interval_at self.now.intervals v }

@@ -1,8 +1,12 @@
 //! Rows that cut a box.
 
-ghost use Rattle.std.specs.Prelude.{◌≡◌, Some, length, IfOk};
+ghost use Rattle.std.specs.Prelude.{◌≡◌, ◌≢◌, ◌<◌, pos, Some, length, IfOk};
+ghost use Rattle.pc_rows.specs.Linear.{InRange};
 ghost use Rattle.pc_rows.specs.Readers.{terms_of};
-ghost use Rattle.pc_box.specs.Forward.{cut_row, cut_rows};
+ghost use Rattle.pc_rows.specs.declared.row.TheConstants.{VARIABLES};
+ghost use Rattle.pc_box.specs.Intervals.{cut};
+ghost use Rattle.pc_box.specs.Boxes.{interval_at};
+ghost use Rattle.pc_box.specs.Forward.{narrowed, cut_row, cut_rows};
 
 use crate::bounds::Bounds;
 use pc_domain::NoMemory;
@@ -34,23 +38,40 @@ fn cut_by(alloc: Global, bounds: Option<Bounds>, r: &Row) -> Result<Option<Bound
 }
 
 /// The box cut by a row. A row with two or more variables leaves it as it is.
-fn cut_row(alloc: Global, bounds: Bounds, r: &Row) -> Result<Option<Bounds>, NoMemory>
+pub(crate) fn cut_row(alloc: Global, bounds: Bounds, r: &Row) -> Result<Option<Bounds>, NoMemory>
     ensures { IfOk result (λ b. b ≡ cut_row (Some bounds) r.now) }
 {
     match r.terms() {
         0 => Ok(if r.constant() < 0 { None } else { Some(bounds) }),
-        1 => cut_at(alloc, &bounds, r),
+        1 => cut_by_term(alloc, &bounds, r),
         _ => Ok(Some(bounds)),
     }
 }
 
 /// The box cut by a row with one variable.
-fn cut_at(alloc: Global, bounds: &Bounds, r: &Row) -> Result<Option<Bounds>, NoMemory>
+fn cut_by_term(alloc: Global, bounds: &Bounds, r: &Row) -> Result<Option<Bounds>, NoMemory>
     requires { length (terms_of r.now) ≡ 1 }
     ensures { IfOk result (λ b. b ≡ cut_row (Some bounds.now) r.now) }
 {
     let (x, a) = r.term(0);
-    let interval = bounds.at(x).cut(a, r.constant());
+    cut_at(alloc, bounds, x, a, r.constant())
+}
+
+/// The box in which a variable keeps the integers with `a` times the integer plus `c` of at least 0.
+pub(crate) fn cut_at(
+    alloc: Global,
+    bounds: &Bounds,
+    x: u32,
+    a: i128,
+    c: i128,
+) -> Result<Option<Bounds>, NoMemory>
+    requires variable { x < VARIABLES }
+    requires other { a ≢ pos 0 }
+    requires factor { InRange a }
+    requires constant { InRange c }
+    ensures { IfOk result (λ b. b ≡ narrowed bounds.now x (cut a c (interval_at bounds.now.intervals x))) }
+{
+    let interval = bounds.at(x).cut(a, c);
     if interval.is_hollow() {
         return Ok(None);
     }

@@ -79,7 +79,7 @@ fn kept_product(sum: Number, c: Number, n: Number) -> Option<Number>
 }
 
 /// The sum with a choice's end.
-fn plus_choice(sum: Option<Number>, choice: Option<i128>) -> Option<Number>
+pub(crate) fn plus_choice(sum: Option<Number>, choice: Option<i128>) -> Option<Number>
     requires { IsEnd choice }
     ensures { result ≡ plus_choice sum choice }
 {

@@ -173,7 +173,7 @@ fn greatest_within(end: Option<Number>, other: Option<Number>) -> bool
 }
 
 /// A least end that is at least `n`.
-fn raised(end: Option<Number>, n: Number) -> Number
+pub(crate) fn raised(end: Option<Number>, n: Number) -> Number
     ensures { result ≡ raised end n }
 {
     match end {
@@ -183,7 +183,7 @@ fn raised(end: Option<Number>, n: Number) -> Number
 }
 
 /// A greatest end that is at most `n`.
-fn lowered(end: Option<Number>, n: Number) -> Number
+pub(crate) fn lowered(end: Option<Number>, n: Number) -> Number
     ensures { result ≡ lowered end n }
 {
     match end {

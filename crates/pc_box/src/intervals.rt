@@ -113,7 +113,7 @@ pub(crate) fn steadies(
 }
 
 /// Adds an interval at the end.
-fn push(list: &mut Intervals, interval: Interval) -> Result<(), NoMemory>
+pub(crate) fn push(list: &mut Intervals, interval: Interval) -> Result<(), NoMemory>
     ensures { OnOk result (list.new ≡ list.old ++ interval ∷ []) }
 {
     // the proof has to see the type of the ends, and sees it only where it is written

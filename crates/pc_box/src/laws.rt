@@ -1,5 +1,6 @@
 //! What boxes promise beyond the laws of domains, as contracts of functions that do nothing.
 
+ghost use Rattle.pc_box.specs.Exact.{BoxesBackAreExact};
 ghost use Rattle.pc_box.specs.Laws.{CuttingIsExact, FoldIsBoxAt, RowsAreBoxRows};
 
 /// A cut keeps exactly the integers that meet the row.
@@ -11,4 +12,10 @@ pub fn cutting_is_exact()
 pub fn fold_is_box_at()
     ensures fold { FoldIsBoxAt }
     ensures rows { RowsAreBoxRows }
+{}
+
+/// Without tests and loops, with small numbers and at most one variable in each form and each row of an assertion, the rows of
+/// the entry are met by exactly the safe entry states.
+pub fn boxes_back_are_exact()
+    ensures { BoxesBackAreExact }
 {}

@@ -32,6 +32,20 @@ impl Model for Box16 {
 }
 
 impl Box16 {
+    /// The box of these bounds; None is the empty box.
+    pub(crate) fn of(bounds: Option<Bounds>) -> Box16
+        ensures { result ≡ bounds }
+    {
+        Box16 { bounds }
+    }
+
+    /// Its bounds; None is the empty box.
+    pub(crate) fn bounds(&self) -> &Option<Bounds>
+        ensures { result.now ≡ self.now }
+    {
+        &self.bounds
+    }
+
     /// The same box.
     fn copy(&self, alloc: Global) -> Result<Box16, NoMemory>
         ensures { IfOk result (λ b. b ≡ self.now) }
@@ -81,7 +95,7 @@ impl Box16 {
     }
 
     /// Its rows.
-    fn told(&self, alloc: Global) -> Result<Items<Row>, NoMemory>
+    pub(crate) fn told(&self, alloc: Global) -> Result<Items<Row>, NoMemory>
         ensures { IfOk result (λ rows. rows ≡ rows_of self.now) }
     {
         match &self.bounds {
@@ -91,7 +105,7 @@ impl Box16 {
     }
 
     /// How many of its variables have an interval of their own.
-    fn width(&self) -> usize
+    pub(crate) fn width(&self) -> usize
         ensures { IsNarrow self.now }
     {
         match &self.bounds {

@@ -10,7 +10,8 @@ use Rattle.pc_flow.specs.Annotation.{Annotation, rows_at}
 use Rattle.pc_flow.specs.Flow.{Flow}
 use Rattle.pc_flow.specs.Lists.{AnyOf}
 use Rattle.pc_entail.specs.Reduction.{Thinned}
-use Rattle.pc_entail.specs.Showing.{question, IsShown, AreMetSomewhere, minus_one}
+use Rattle.pc_rows.specs.Substitution.{never_row}
+use Rattle.pc_entail.specs.Showing.{question, IsShown, AreMetSomewhere}
 use Rattle.pc_certificate.specs.declared.certificate.Annotated.{Annotated}
 use Rattle.pc_certify.specs.Causes.{RowFails}
 use Rattle.pc_certify.specs.Claims.{IsProved}
@@ -30,7 +31,7 @@ IsOfEntry g a rows = IsReduced g.params (rows_at a 1) (rows_at a 0) rows
 
 -- some rational point meets the rows, or it is not asked modestly whether they contradict each other
 abbrev pub MayBeMet : List Linear → Type 0
-MayBeMet rows = AreMetSomewhere rows ⊎ (IsModest (question rows minus_one) → ⊥)
+MayBeMet rows = AreMetSomewhere rows ⊎ (IsModest (question rows never_row) → ⊥)
 
 -- the rows of an alternative at the entry
 pub record AreEntryRows (g : Flow) (a : Annotation) (rows : List Linear) : Type 0 where
@@ -45,7 +46,7 @@ IsMetNowhere rows = (s : State) → MeetsAll s rows → ⊥
 
 -- the rows of an annotation at the entry, reduced, contradict each other
 abbrev pub IsContradictory : Flow → Annotation → Type 0
-IsContradictory g a = (rows : List Linear) × IsOfEntry g a rows × IsShown rows minus_one
+IsContradictory g a = (rows : List Linear) × IsOfEntry g a rows × IsShown rows never_row
 
 -- an alternative has the rows of an annotation at every point but the entry
 abbrev pub HasRows : Annotation → Annotated → Type 0
@@ -61,5 +62,5 @@ pub record ReducesTo (g : Flow) (a b : Annotated) : Type 0 where
 -- an alternative, unless the rows of its entry are found to contradict each other
 abbrev pub PossibleIs : Annotated → Result (Option Annotated) NoMemory → Type 0
 PossibleIs a (Ok (Some b)) = (b ≡ a) × (length (rows_at a.rows 0) ≤ ROWS) × MayBeMet (rows_at a.rows 0)
-PossibleIs a (Ok None) = IsShown (rows_at a.rows 0) minus_one
+PossibleIs a (Ok None) = IsShown (rows_at a.rows 0) never_row
 PossibleIs a (Err e) = Unit {0}

@@ -3,3 +3,4 @@ pub mod Places
 pub mod Picking
 pub mod Folding
 pub mod Heads
+pub mod Entered

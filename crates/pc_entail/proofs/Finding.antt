@@ -9,7 +9,8 @@ use Rattle.pc_rows.proofs.Farkas.{shown_is_met, refuted_is_not_shown}
 use Rattle.pc_rows.proofs.Values.{value-constant}
 use Rattle.pc_rows.proofs.Adding.{drop_got}
 use Rattle.pc_rows.proofs.Joining.{each_left, each_right}
-use Rattle.pc_entail.specs.Showing.{question, minus_one, IsShown, AllShown, IsNotFound, SomeNotFound, ShowIs, ContradictoryIs}
+use Rattle.pc_rows.specs.Substitution.{never_row}
+use Rattle.pc_entail.specs.Showing.{question, IsShown, AllShown, IsNotFound, SomeNotFound, ShowIs, ContradictoryIs}
 use Rattle.pc_entail.specs.Laws.{ShownRowsAreMet}
 use Rattle.pc_entail.specs.Steps.{FailsToShow}
 
@@ -57,10 +58,10 @@ unknown_stays stay removed r h modest all = one_fails stay r h
 
 -- rows that contradict each other
 
-pub contradictory_is : (rows : List Linear) (found : Result Bool NoMemory) → ShowIs (rows ++ []) minus_one found → ContradictoryIs rows found
-contradictory_is rows found h = by found (subst (λ (z : List Linear). ShowIs z minus_one found) (append-nil rows) h)
+pub contradictory_is : (rows : List Linear) (found : Result Bool NoMemory) → ShowIs (rows ++ []) never_row found → ContradictoryIs rows found
+contradictory_is rows found h = by found (subst (λ (z : List Linear). ShowIs z never_row found) (append-nil rows) h)
   where
-    by : (found : Result Bool NoMemory) → ShowIs rows minus_one found → ContradictoryIs rows found
+    by : (found : Result Bool NoMemory) → ShowIs rows never_row found → ContradictoryIs rows found
     by (Ok true) h = h
     by (Ok false) (inl (p, refutes)) = inl (p, refutes.positive, refutes.meets_premises)
     by (Ok false) (inr not_modest) = inr not_modest
@@ -68,7 +69,7 @@ contradictory_is rows found h = by found (subst (λ (z : List Linear). ShowIs z 
 
 pub contradictory_states : (rows : List Linear) (found : Result Bool NoMemory) → ContradictoryIs rows found → found ≡ Ok true → (s : State) → MeetsAll s rows → ⊥
 contradictory_states rows (Ok true) (p, shows) e s m =
-    let below = shown_is_met rows minus_one p s shows m in
+    let below = shown_is_met rows never_row p s shows m in
     let v = value-constant (negsuc 0) s in omega (arith, ints)
 contradictory_states rows (Ok false) h e s m = cc
 contradictory_states rows (Err x) h e s m = cc

@@ -1,8 +1,9 @@
 -- Which rows show which.
-use Rattle.std.specs.Prelude.{◌⊎◌, pos, negsuc, ◌≤ℤ◌, Bool, true, false, List, [], ◌∷◌, Result, Ok, Err}
+use Rattle.std.specs.Prelude.{◌⊎◌, pos, ◌≤ℤ◌, Bool, true, false, List, [], ◌∷◌, Result, Ok, Err}
 use Rattle.std.specs.List.{AllByRecursion}
 use Rattle.pc_rows.specs.declared.rows.NoMemory.{NoMemory}
-use Rattle.pc_rows.specs.Linear.{Linear, of_constant}
+use Rattle.pc_rows.specs.Linear.{Linear}
+use Rattle.pc_rows.specs.Substitution.{never_row}
 use Rattle.pc_rows.specs.Evidence.{System, Proof, Point}
 use Rattle.pc_rows.specs.Shows.{Shows}
 use Rattle.pc_rows.specs.Points.{AllMeetAt, Refutes}
@@ -45,16 +46,12 @@ ShowsAllIs rows goals (Ok true) = AllShown rows goals
 ShowsAllIs rows goals (Ok false) = SomeNotFound rows goals
 ShowsAllIs rows goals (Err e) = Unit {0}
 
--- the row -1, which no state meets
-abbrev pub minus_one : Linear
-minus_one = of_constant (negsuc 0)
-
 -- some rational point meets the rows
 abbrev pub AreMetSomewhere : List Linear → Type 0
 AreMetSomewhere rows = (p : Point) × (pos 1 ≤ℤ p.denominator) × AllMeetAt p rows
 
 -- whether the rows are found to contradict each other
 abbrev pub ContradictoryIs : List Linear → Result Bool NoMemory → Type 0
-ContradictoryIs rows (Ok true) = IsShown rows minus_one
-ContradictoryIs rows (Ok false) = AreMetSomewhere rows ⊎ (IsModest (question rows minus_one) → ⊥)
+ContradictoryIs rows (Ok true) = IsShown rows never_row
+ContradictoryIs rows (Ok false) = AreMetSomewhere rows ⊎ (IsModest (question rows never_row) → ⊥)
 ContradictoryIs rows (Err e) = Unit {0}

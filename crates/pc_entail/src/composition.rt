@@ -1,9 +1,8 @@
 //! Proofs put together. Nothing is proved of what they show: whoever uses one checks it.
 
-ghost use Rattle.std.specs.Prelude.{◌<◌, ◌+◌, ◌^◌, IfOk};
-ghost use Rattle.pc_rows.specs.Evidence.{IsAbove};
+ghost use Rattle.std.specs.Prelude.{◌<◌, ◌^◌};
 
-use pc_rows::{NoMemory, Number, PREMISES, Part, Parts, Past, Proof};
+use pc_rows::{NoMemory, Number, PREMISES, Parts, Past, Proof};
 use std::alloc::Global;
 
 /// The proof `old` without the premise at `place`, in whose place stands what `gone` shows that
@@ -114,26 +113,11 @@ fn over(n: Number, divisor: u128) -> Number
 /// greatest common divisor, so that they stay small.
 fn proof_of(alloc: Global, goal: Number, premises: &[Number; PREMISES]) -> Result<Proof, NoMemory> {
     let divisor = common_divisor(goal, premises);
-    let mut parts = Parts::new(alloc);
+    let mut small = *premises;
     for i in 0..PREMISES {
         if !premises[i].is_zero() {
-            add_part(&mut parts, i, over(premises[i], divisor))?;
+            small[i] = over(premises[i], divisor);
         }
     }
-    Ok(Proof::new(over(goal, divisor), parts))
-}
-
-/// Puts a part at the end, unless its multiplier is 0.
-fn add_part(parts: &mut Parts, i: usize, multiplier: Number) -> Result<(), NoMemory>
-    requires premise { i < PREMISES }
-    requires rising { IsAbove i parts.old }
-    ensures { IfOk result (λ _. IsAbove (i + 1) parts.new) }
-{
-    if multiplier.is_zero() {
-        return Ok(());
-    }
-    parts.push(Part {
-        index: i as u32,
-        multiplier,
-    })
+    Ok(Proof::new(over(goal, divisor), Parts::of_multipliers(alloc, &small)?))
 }

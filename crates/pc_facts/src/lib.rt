@@ -5,3 +5,4 @@ mod lines;
 mod rows;
 
 pub use lines::show_facts;
+pub use rows::text_of_rows;

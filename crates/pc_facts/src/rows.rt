@@ -75,7 +75,7 @@ fn is_over(r: &Row, count: u32) -> bool
 }
 
 /// The texts of rows, joined by ` && `, or `true` where there are none.
-fn text_of_rows(alloc: Global, rows: &[Row], names: &Names) -> Result<Text, NoMemory>
+pub fn text_of_rows(alloc: Global, rows: &[Row], names: &Names) -> Result<Text, NoMemory>
     requires { Each (IsOver (length names.now.names)) rows.now }
     ensures { IfOk result (λ text. text ≡ rows_text names.now.names rows.now) }
 {

@@ -1,7 +1,7 @@
 -- Values that no edge leaves have all states that are reached.
-use Rattle.std.proofs.Common.{◌≡◌, ◌∙◌, ℕ, ◌-◌, ◌<◌, ◌≤◌, pos, List, length, replicate, refl, Some, None, Option, slice_get, arith, Bool, true, false, length-append, eq-eqb}
+use Rattle.std.proofs.Common.{◌≡◌, ◌∙◌, ℕ, ◌<◌, List, length, refl, Some, None, Option, slice_get, arith, Bool, true, false, eq-eqb}
 use Rattle.std.specs.Prelude.{◌==◌}
-use Rattle.std.proofs.lemmas.List.{length-map, length-replicate}
+use Rattle.std.proofs.lemmas.List.{length-map}
 use Rattle.std.proofs.lemmas.Option.{slice_get-get_or}
 use Rattle.pc_rows.specs.Linear.{State}
 use Rattle.pc_flow.specs.Arc.{Arc}
@@ -16,6 +16,7 @@ use Rattle.pc_flow.proofs.Carrying.{same_length}
 use Rattle.pc_flow.proofs.Closed.{forward_holds}
 use Rattle.pc_domain.specs.declared.forward.Forward.{Ghosts}
 use Rattle.pc_domain.specs.Values.{HasAt, IsConsistent}
+use Rattle.pc_domain.proofs.Entered.{entered_long}
 use Rattle.pc_domain.proofs.Heads.{leads_of}
 use Rattle.pc_domain.proofs.Options.{some_is, is_some}
 use Rattle.pc_domain.proofs.Picking.{in_picked}
@@ -23,12 +24,6 @@ use Rattle.pc_fixpoint.specs.Flowing.{heads, Everything, Gathered, Filled}
 use Rattle.pc_fixpoint.specs.Rounds.{Settled}
 use Rattle.pc_fixpoint.proofs.Landing.{flows_lands}
 use Rattle.pc_fixpoint.proofs.Pointing.{rises}
-
--- the state at the entry has a value for each variable
-entered_long : (g : Flow) (s : State) → g.params ≤ g.variables → length s ≡ g.params → length (entered g s) ≡ g.variables
-entered_long g s le long =
-    let zeros = length-replicate (g.variables - g.params) (pos 0) in
-    length-append s (replicate (g.variables - g.params) (pos 0)) ∙ omega arith
 
 module _ {V : Type 0} (d : Ghosts V) (g : Flow) (graph : IsGraph g) (values : List V) where
   lands : (e : Arc) → In e g.edges → (v : V) → Gathered d g values e.to v → (s t : State) → HasVariable e.what s → HasAt d.has values e.from s → Pass e.what s t → d.has v t

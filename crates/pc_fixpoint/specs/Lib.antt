@@ -1,2 +1,4 @@
 pub mod Flowing
 pub mod Rounds
+pub mod Ebbing
+pub mod Sweeps

@@ -1,8 +1,14 @@
-//! The iteration over a graph in any domain: a value for each point.
+//! The two iterations over a graph in any domain, forwards and backwards: a value for each point.
 #![tactic(auto)]
 
+mod asking;
+mod entry;
 mod gathering;
 mod heads;
 mod iteration;
+mod recession;
+mod sweeping;
 
+pub use entry::entry_condition;
 pub use iteration::forward;
+pub use recession::backward;

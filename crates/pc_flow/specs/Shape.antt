@@ -7,6 +7,7 @@ use Rattle.pc_language.specs.declared.limits.TheConstants.{EDGES}
 use Rattle.pc_flow.specs.declared.point.PointInfo.{PointInfo}
 use Rattle.pc_flow.specs.Arc.{What, Enter, Test, Set, Check, Arc, arc}
 use Rattle.pc_flow.specs.Flow.{Flow}
+use Rattle.pc_flow.specs.Incidence.{leaving}
 
 -- what an edge asks and does has no variable from number `variables` on: not in its rows, nor in its form, nor as what it assigns
 abbrev pub WhatIsOver : ℕ → What → Type 0
@@ -53,3 +54,18 @@ TurnsApart e f = e.to ≤ e.from → f.to ≤ f.from → e.to ≢ f.to
 abbrev pub NoSharedHead : List Arc → Type 0
 NoSharedHead [] = Unit {0}
 NoSharedHead (e ∷ es) = Each (TurnsApart e) es × NoSharedHead es
+
+-- the edge is an assertion
+abbrev pub IsCheck : What → Type 0
+IsCheck (Check rows) = Unit {0}
+IsCheck (Enter params) = ⊥
+IsCheck (Test rows) = ⊥
+IsCheck (Set x form lo hi) = ⊥
+
+-- no other edge leaves the point that it leaves, if it is an assertion
+abbrev pub IsAloneIfCheck : List Arc → Arc → Type 0
+IsAloneIfCheck edges e = IsCheck e.what → leaving e.from edges ≡ e ∷ []
+
+-- assertions are the only edges from their points
+abbrev pub ChecksAlone : Flow → Type 0
+ChecksAlone g = Each (IsAloneIfCheck g.edges) g.edges

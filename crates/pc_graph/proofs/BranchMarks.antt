@@ -1,6 +1,5 @@
 -- The loops of two blocks that a test chooses between.
-use Rattle.std.proofs.Common.{◌≡◌, ◌≢◌, ℕ, ◌+◌, ◌<◌, ◌≤◌, List, [], ◌∷◌, ◌++◌, length, true, false, refl, sym, arith, map, inl, inr, length-append}
-use Rattle.std.specs.Prelude.{◌⊎◌}
+use Rattle.std.proofs.Common.{◌≢◌, ℕ, ◌+◌, ◌<◌, ◌≤◌, List, [], ◌∷◌, ◌++◌, true, false, refl, sym, arith, map, inl, inr, length-append}
 use Rattle.std.specs.List.{AllByRecursion as Each}
 use Rattle.pc_text.specs.declared.place.Place.{Place}
 use Rattle.pc_rows.proofs.Joining.{each_join}
@@ -12,7 +11,8 @@ use Rattle.pc_graph.specs.Lowering.{tests, join_edges, rule, rule_step, rules}
 use Rattle.pc_graph.specs.Rest.{rests_of}
 use Rattle.pc_graph.specs.Ways.{ways}
 use Rattle.pc_graph.proofs.Pieces.{holds_left, holds_right}
-use Rattle.pc_graph.proofs.Within.{Within, tests_from}
+use Rattle.pc_graph.proofs.Within.{Within, least, tests_from}
+use Rattle.pc_graph.proofs.Lone.{split_alone}
 use Rattle.pc_graph.proofs.Marked.{IfBody, Begins, LoopIn, MarksBy, tests_unmarked, more_begins, later_begins, loops_before, loops_behind}
 
 module _ (ρ : ℕ → List Stmt) (place : Place) (t : Condition) (xs ys : List Stmt) (all_x : MarksBy ρ (rules xs) (rests_of xs) (λ k. xs ++ k)) (all_y : MarksBy ρ (rules ys) (rests_of ys) (λ k. ys ++ k)) where
@@ -36,12 +36,12 @@ module _ (ρ : ℕ → List Stmt) (place : Place) (t : Condition) (xs ys : List 
       let In2 = λ (q : ℕ). Within a.next (a.next + 1) b.next b.last q in
       let All = λ (q : ℕ). Within p n (b.next + 1) b.next q in
       let at_p : All p = record { low = inl refl; high = omega arith; other = λ same. omega arith } in
-      let low1 = λ (q : ℕ) (w : In1 q). from_low n q w.low in
-      let low2 = λ (q : ℕ) (w : In2 q). from_low a.next q w.low in
+      let low1 = λ (q : ℕ) (w : In1 q). least n q w.low in
+      let low2 = λ (q : ℕ) (w : In2 q). least a.next q w.low in
       let wide1 = λ (q : ℕ) (w : In1 q). wide p n (b.next + 1) b.next q (low1 q w) (let high = w.high in omega arith) (let high = w.high in omega arith) in
       let wide2 = λ (q : ℕ) (w : In2 q). wide p n (b.next + 1) b.next q (let low = low2 q w in omega arith) (let high = w.high in omega arith) (let high = w.high in omega arith) in
-      let last1 : n ≤ a.last = at_least n a.last f.ends in
-      let last2 : a.next ≤ b.last = at_least a.next b.last h.ends in
+      let last1 : n ≤ a.last = least n a.last f.ends in
+      let last2 : a.next ≤ b.last = least a.next b.last h.ends in
       let Body = IfBody (λ e. Begins (a.loops ++ b.loops) e.from) in
       record {
         next = omega (arith, length-append (rests_of xs k) ((ys ++ k) ∷ (rests_of ys k ++ (k ∷ []))), length-append (rests_of ys k) (k ∷ []));
@@ -83,15 +83,8 @@ module _ (ρ : ℕ → List Stmt) (place : Place) (t : Condition) (xs ys : List 
             (each_join Body a.edges _ (more_begins a.loops b.loops a.edges f.bodies)
             (each_join Body falses _ (tests_unmarked _ p a.next (ways t false))
             (each_join Body b.edges ends (later_begins a.loops b.loops b.edges h.bodies) ((λ e. absurd (cc)), ((λ e. absurd (cc)), tt)))));
+        checks = split_alone place t p n a b up (omega arith) fl last2 f.edges h.edges f.checks h.checks;
       }
     where
-      from_low : (m q : ℕ) → (q ≡ m) ⊎ (m + 1 ≤ q) → m ≤ q
-      from_low m q (inl e) = omega arith
-      from_low m q (inr le) = omega arith
-
-      at_least : (m q : ℕ) → (q ≡ m) ⊎ (m + 1 ≤ q) → m ≤ q
-      at_least m q (inl e) = omega arith
-      at_least m q (inr le) = omega arith
-
       wide : (p n m t q : ℕ) → n ≤ q → q < m → q < t → Within p n m t q
       wide p n m t q low high other = record { low = inr low; high = high; other = λ same. omega arith }

@@ -5,6 +5,7 @@ pub mod Pieces
 pub mod Rules
 pub mod Bridge
 pub mod Within
+pub mod Lone
 pub mod Marked
 pub mod BranchMarks
 pub mod LoopMarks

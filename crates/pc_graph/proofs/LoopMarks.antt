@@ -1,6 +1,5 @@
 -- The loop of a statement that repeats a block, and the loops in the block.
-use Rattle.std.proofs.Common.{◌≡◌, ◌≢◌, ℕ, ◌+◌, ◌<◌, ◌≤◌, List, [], ◌∷◌, ◌++◌, length, true, false, refl, sym, arith, map, inl, inr, length-append}
-use Rattle.std.specs.Prelude.{◌⊎◌}
+use Rattle.std.proofs.Common.{◌≡◌, ◌≢◌, ℕ, ◌+◌, ◌<◌, ◌≤◌, List, [], ◌∷◌, ◌++◌, true, false, refl, sym, arith, map, inl, inr, length-append}
 use Rattle.std.specs.List.{AllByRecursion as Each}
 use Rattle.pc_text.specs.declared.place.Place.{Place}
 use Rattle.pc_rows.specs.Linear.{Linear}
@@ -19,8 +18,9 @@ use Rattle.pc_graph.specs.Marks.{LeadsOn}
 use Rattle.pc_graph.specs.Rest.{rests_of}
 use Rattle.pc_graph.specs.Ways.{ways}
 use Rattle.pc_graph.proofs.Pieces.{holds_left, holds_right}
-use Rattle.pc_graph.proofs.Within.{Within, tests_from}
-use Rattle.pc_graph.proofs.Marked.{IfBody, Begins, LoopIn, MarksBy, tests_unmarked, later_begins, loops_before, loops_behind}
+use Rattle.pc_graph.proofs.Within.{Within, least, tests_from}
+use Rattle.pc_graph.proofs.Lone.{loop_alone}
+use Rattle.pc_graph.proofs.Marked.{IfBody, Begins, MarksBy, tests_unmarked, later_begins, loops_before, loops_behind}
 
 module _ (ρ : ℕ → List Stmt) (place : Place) (t : Condition) (tried : List Compare) (xs : List Stmt) (all_x : MarksBy ρ (rules xs) (rests_of xs) (λ k. xs ++ k)) where
   pub loop_marks : MarksBy ρ (rule_step (stmt.While place t tried (map rule xs)))
@@ -80,12 +80,9 @@ module _ (ρ : ℕ → List Stmt) (place : Place) (t : Condition) (tried : List 
         );
         bodies = each_join Body trues _ (each_more (λ e. e.from ≡ p) Body (λ e from b. inl (sym from)) trues (tests_from (λ q. q ≡ p) true p n (ways t true) refl))
             (each_join Body a.edges (back ∷ falses) (later_begins (own ∷ []) a.loops a.edges f.bodies) ((λ e. absurd (cc)), tests_unmarked _ p a.next (ways t false)));
+        checks = loop_alone place t tried p n a up f.edges f.checks;
       }
     where
-      least : (m q : ℕ) → (q ≡ m) ⊎ (m + 1 ≤ q) → m ≤ q
-      least m q (inl e) = omega arith
-      least m q (inr le) = omega arith
-
       further : (p n m q : ℕ) → n ≤ q → q < m → Within p n (m + 1) m q
       further p n m q low high = record { low = inr low; high = omega arith; other = λ same. omega arith }
 

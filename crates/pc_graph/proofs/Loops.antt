@@ -11,14 +11,16 @@ use Rattle.pc_flow.specs.declared.point.PointInfo.{PointInfo}
 use Rattle.pc_flow.specs.declared.what.What.TheVariants.{Enter}
 use Rattle.pc_flow.specs.Arc.{Arc, arc}
 use Rattle.pc_flow.specs.Lists.{In}
-use Rattle.pc_flow.specs.Shape.{IsHead, LeadsUp}
-use Rattle.pc_flow.proofs.Lists.{each_at, each_of_members}
+use Rattle.pc_flow.specs.Shape.{IsHead, LeadsUp, ChecksAlone}
+use Rattle.pc_flow.proofs.Lists.{each_at, each_more, each_of_members}
 use Rattle.pc_graph.specs.declared.draft.Loop.{Loop}
 use Rattle.pc_graph.specs.Lowering.{graph, made, point_at, points_from, tried_at}
 use Rattle.pc_graph.specs.Marks.{IsLoopAt, MarksLoops, LoopsAreMarked}
 use Rattle.pc_graph.specs.Rest.{rest, rests_of}
+use Rattle.pc_graph.specs.Straight.{ChecksStandAlone}
 use Rattle.pc_graph.proofs.Bridge.{holds_from}
 use Rattle.pc_graph.proofs.Graphs.{graph_kept, head_point, points-length}
+use Rattle.pc_graph.proofs.Lone.{behind_one}
 use Rattle.pc_graph.proofs.Marked.{Begins, Marked, before}
 use Rattle.pc_graph.proofs.Marks.{all_marks}
 use Rattle.pc_graph.proofs.Shapes.{HeadIn}
@@ -64,6 +66,11 @@ begins_is [] q h = absurd h
 begins_is (l ∷ loops) q (inl h) = or_left (l.head == q) (list_any (λ l. l.head == q) loops) (eq-eqb l.head q h)
 begins_is (l ∷ loops) q (inr h) = or_right (l.head == q) (list_any (λ l. l.head == q) loops) (begins_is loops q h)
 
+-- a point of the body is not the entry
+away : (m : ℕ) → (m ≡ 1) ⊎ (2 ≤ m) → 0 ≢ m
+away m (inl e) = λ same. omega arith
+away m (inr le) = λ same. omega arith
+
 module _ (p : Program) where
   marked : Marked (rest p) 1 2 [] (length (rests_of p.body [])) (made p)
   marked = all_marks (rest p) p.body 1 2 [] (omega arith) (sym (append-nil p.body))
@@ -81,10 +88,6 @@ module _ (p : Program) where
       let whole = before (rest p) (arc 0 1 (Enter p.names.params) ∷ []) (made p).edges l.0 (away l.0.head w.low, tt) h in
       subst (λ (rows : List Linear). IsLoopAt (rest p) (graph p).edges q rows) (sym (ap (λ (z : PointInfo). z.tried) at_q ∙ l.3))
       (subst (λ (m : ℕ). IsLoopAt (rest p) (graph p).edges m l.0.tried) l.2 whole)
-    where
-      away : (m : ℕ) → (m ≡ 1) ⊎ (2 ≤ m) → 0 ≢ m
-      away m (inl e) = λ same. omega arith
-      away m (inr le) = λ same. omega arith
 
   body_leaves_head : (e : Arc) → In e (graph p).edges → e.body ≡ true → IsHead (graph p).points e.from
   body_leaves_head e m body =
@@ -101,5 +104,13 @@ module _ (p : Program) where
     others = others_none (made p).loops 0 (p.place ∷ p.place ∷ (made p).places);
   }
 
+  checks_alone : ChecksAlone (graph p)
+  checks_alone =
+      behind_one (arc 0 1 (Enter p.names.params)) (made p).edges (λ check. check)
+      (each_more (λ e. Within 1 2 (made p).next (made p).last e.from) (λ e. 0 ≢ e.from) (λ e w. away e.from w.low) (made p).edges marked.edges) marked.checks
+
 pub loops_are_marked : LoopsAreMarked
 loops_are_marked p = loops_marked p
+
+pub checks_stand_alone : ChecksStandAlone
+checks_stand_alone p = checks_alone p

@@ -10,11 +10,13 @@ use Rattle.pc_program.specs.declared.tree.Stmt.TheOpen as stmt
 use Rattle.pc_flow.specs.Arc.{Arc}
 use Rattle.pc_flow.specs.declared.what.What.{What}
 use Rattle.pc_flow.specs.Lists.{AnyOf}
+use Rattle.pc_flow.specs.Shape.{IsAloneIfCheck}
 use Rattle.pc_flow.proofs.Lists.{each_more}
 use Rattle.pc_graph.specs.declared.draft.Loop.{Loop}
 use Rattle.pc_graph.specs.Lowering.{Piece, Rule, one, after, tests, rule, rules}
 use Rattle.pc_graph.specs.Marks.{LeadsOn, IsLoopAt}
 use Rattle.pc_graph.specs.Rest.{rests, rests_of}
+use Rattle.pc_graph.proofs.Lone.{each_with, one_alone, after_alone}
 use Rattle.pc_graph.proofs.Pieces.{holds_left, holds_right}
 use Rattle.pc_graph.proofs.Tied.{Holds}
 use Rattle.pc_graph.proofs.Within.{Within, within_first, within_second, apart}
@@ -45,11 +47,6 @@ more_begins xs ys es h = each_more (IfBody (λ e. Begins xs e.from)) (IfBody (λ
 
 pub later_begins : (xs ys : List Loop) (es : List Arc) → Each (IfBody (λ e. Begins ys e.from)) es → Each (IfBody (λ e. Begins (xs ++ ys) e.from)) es
 later_begins xs ys es h = each_more (IfBody (λ e. Begins ys e.from)) (IfBody (λ e. Begins (xs ++ ys) e.from)) (λ e f b. begins_right xs ys e.from (f b)) es h
-
--- a loop of a list, with what holds of its head
-each_both : (P Q R : Loop → Type 0) → ((l : Loop) → P l → Q l → R l) → (ls : List Loop) → Each P ls → Each Q ls → Each R ls
-each_both P Q R f [] h g = tt
-each_both P Q R f (l ∷ ls) h g = (f l h.0 g.0, each_both P Q R f ls h.1 g.1)
 
 module _ (ρ : ℕ → List Stmt) where
   abbrev pub LoopIn : List Arc → Loop → Type 0
@@ -94,13 +91,14 @@ module _ (ρ : ℕ → List Stmt) where
     pub heads : Each (λ l. Within p n a.next a.last l.head) a.loops
     pub loops : Each (LoopIn a.edges) a.loops
     pub bodies : Each (IfBody (λ e. Begins a.loops e.from)) a.edges
+    pub checks : Each (IsAloneIfCheck a.edges) a.edges
 
   -- loops whose heads no further edge leaves
   pub loops_before : (es fs : List Arc) (ls : List Loop) → Each (λ l. Each (λ e. e.from ≢ l.head) es) ls → Each (LoopIn fs) ls → Each (LoopIn (es ++ fs)) ls
-  loops_before es fs ls none h = each_both (λ l. Each (λ e. e.from ≢ l.head) es) (LoopIn fs) (LoopIn (es ++ fs)) (before es fs) ls none h
+  loops_before es fs ls none h = each_with (λ l. Each (λ e. e.from ≢ l.head) es) (LoopIn fs) (LoopIn (es ++ fs)) (before es fs) ls none h
 
   pub loops_behind : (es fs : List Arc) (ls : List Loop) → Each (λ l. Each (λ e. e.from ≢ l.head) fs) ls → Each (LoopIn es) ls → Each (LoopIn (es ++ fs)) ls
-  loops_behind es fs ls none h = each_both (λ l. Each (λ e. e.from ≢ l.head) fs) (LoopIn es) (LoopIn (es ++ fs)) (behind es fs) ls none h
+  loops_behind es fs ls none h = each_with (λ l. Each (λ e. e.from ≢ l.head) fs) (LoopIn es) (LoopIn (es ++ fs)) (behind es fs) ls none h
 
   marked_after : (p n : ℕ) (k l : List Stmt) (i j : ℕ) (a b : Piece) → p < n → Marked p n k i a → Marked a.last a.next l j b → Marked p n l (i + j) (after a b)
   marked_after p n k l i j a b up f h =
@@ -131,6 +129,7 @@ module _ (ρ : ℕ → List Stmt) where
             (each_more (λ l. In2 l.head) (λ l. Each (λ e. e.from ≢ l.head) a.edges)
             (λ l w. each_more (λ e. In1 e.from) (λ e. e.from ≢ l.head) (λ e v same. separate e.from l.head v w (sym same)) a.edges f.edges) b.loops h.heads) h.loops);
         bodies = each_join (IfBody (λ e. Begins (a.loops ++ b.loops) e.from)) a.edges b.edges (more_begins a.loops b.loops a.edges f.bodies) (later_begins a.loops b.loops b.edges h.bodies);
+        checks = after_alone a b In1 In2 separate f.edges h.edges f.checks h.checks;
       }
     where
       ends : (a.last ≡ p) ⊎ (n ≤ a.last) → (b.last ≡ a.last) ⊎ (a.next ≤ b.last) → n ≤ a.next → (b.last ≡ p) ⊎ (n ≤ b.last)
@@ -154,7 +153,7 @@ module _ (ρ : ℕ → List Stmt) where
 
   pub list_marks : (ss : List Stmt) → Each MarksOne ss → MarksBy (rules ss) (rests_of ss) (λ k. ss ++ k)
   list_marks [] all p n k up e hold =
-      record { next = omega arith; ends = inl refl; last = up; rest = e; edges = tt; heads = tt; loops = tt; bodies = tt }
+      record { next = omega arith; ends = inl refl; last = up; rest = e; edges = tt; heads = tt; loops = tt; bodies = tt; checks = tt }
   list_marks (x ∷ ss) all p n k up e hold =
       let a = rule x p n in
       let f = all.0 p n (ss ++ k) up e (holds_left ρ n (rests x (ss ++ k)) (rests_of ss k) hold) in
@@ -173,4 +172,5 @@ module _ (ρ : ℕ → List Stmt) where
         heads = tt;
         loops = tt;
         bodies = ((λ e. absurd (cc)), tt);
+        checks = one_alone p n w;
       }

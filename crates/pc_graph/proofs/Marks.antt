@@ -1,5 +1,5 @@
 -- The loops of the pieces of all statements.
-use Rattle.std.proofs.Common.{◌≡◌, ℕ, ◌+◌, ◌<◌, List, [], ◌∷◌, ◌++◌, length, map}
+use Rattle.std.proofs.Common.{◌≡◌, ℕ, ◌<◌, List, [], ◌∷◌, ◌++◌, length, map}
 use Rattle.pc_program.specs.Forms.{rows_all}
 use Rattle.pc_program.specs.declared.tree.Stmt.{Stmt, roll-Stmt, fold-roll-Stmt}
 use Rattle.pc_program.specs.declared.tree.Stmt.TheOpen as stmt

@@ -1,19 +1,18 @@
 -- The places of the points that the rules make.
-use Rattle.std.proofs.Common.{◌≡◌, ℕ, suc, ◌+◌, ◌<◌, ◌≤◌, List, [], ◌∷◌, ◌++◌, length, refl, sym, ap, subst, ◌∙◌, arith, map, inl, inr, length-append, append-nil}
+use Rattle.std.proofs.Common.{◌≡◌, ℕ, suc, ◌+◌, ◌<◌, List, [], ◌∷◌, ◌++◌, length, refl, sym, ap, subst, arith, map, inl, inr, length-append, append-nil}
 use Rattle.std.specs.List.{AllByRecursion as Each}
 use Rattle.pc_text.specs.declared.place.Place.{Place}
 use Rattle.pc_program.specs.Forms.{rows_all}
-use Rattle.pc_program.specs.declared.program.Program.{Program}
 use Rattle.pc_program.specs.declared.tree.Compare.{Compare}
 use Rattle.pc_program.specs.declared.tree.Test.{Test as Condition}
-use Rattle.pc_program.specs.declared.tree.Stmt.{Stmt, Stmt-F, roll-Stmt, out-Stmt, out-roll-Stmt, fold-roll-Stmt}
+use Rattle.pc_program.specs.declared.tree.Stmt.{Stmt, Stmt-F, roll-Stmt, out-roll-Stmt, fold-roll-Stmt}
 use Rattle.pc_program.specs.declared.tree.Stmt.TheOpen as stmt
 use Rattle.pc_program.proofs.Stmts.{by_stmt, all_by}
 use Rattle.pc_flow.specs.declared.what.What.{What}
 use Rattle.pc_flow.specs.declared.what.What.TheVariants.{Test, Check}
 use Rattle.pc_flow.specs.Lists.{In}
 use Rattle.pc_graph.specs.declared.draft.Loop.{Loop}
-use Rattle.pc_graph.specs.Lowering.{Piece, Rule, one, assigned, rule, rule_step, rules, made, graph, points_from}
+use Rattle.pc_graph.specs.Lowering.{Piece, Rule, one, assigned, rule, rule_step, rules, made, points_from}
 use Rattle.pc_graph.specs.Places.{first_place, nexts, IsMade, AreMade, PlacesAreTheirs}
 use Rattle.pc_graph.specs.Rest.{rest, rests, rests_of}
 use Rattle.pc_graph.proofs.Bridge.{holds_from}

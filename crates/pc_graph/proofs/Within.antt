@@ -1,5 +1,5 @@
 -- The points at which a piece has its edges and loops.
-use Rattle.std.proofs.Common.{◌≡◌, ◌≢◌, ℕ, ◌<◌, ◌≤◌, List, [], ◌∷◌, Bool, sym, ◌∙◌, arith, inl, inr}
+use Rattle.std.proofs.Common.{◌≡◌, ◌≢◌, ℕ, ◌+◌, ◌<◌, ◌≤◌, List, [], ◌∷◌, Bool, sym, ◌∙◌, arith, inl, inr}
 use Rattle.std.specs.Prelude.{◌⊎◌}
 use Rattle.std.specs.List.{AllByRecursion as Each}
 use Rattle.pc_rows.specs.Linear.{Linear}
@@ -34,6 +34,11 @@ module _ (p n m t m2 t2 : ℕ) (up : p < n) (ends : (t ≡ p) ⊎ (n ≤ t)) (mo
       by : (r ≡ t) ⊎ (m ≤ r) → r ≢ q
       by (inl e) = λ same. h.other (sym same ∙ e)
       by (inr le) = let high = h.high in λ same. omega arith
+
+-- the point is not below the first that it may be
+pub least : (m q : ℕ) → (q ≡ m) ⊎ (m + 1 ≤ q) → m ≤ q
+least m q (inl e) = omega arith
+least m q (inr le) = omega arith
 
 -- the edges of a test leave one point
 pub tests_from : (P : ℕ → Type 0) (b : Bool) (p q : ℕ) (ws : List (List Linear)) → P p → Each (λ e. P e.from) (tests b p q ws)

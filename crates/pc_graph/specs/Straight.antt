@@ -14,7 +14,7 @@ use Rattle.pc_program.specs.declared.tree.Stmt.{Stmt, Stmt-F, fold-Stmt}
 use Rattle.pc_program.specs.declared.tree.Stmt.TheOpen as stmt
 use Rattle.pc_flow.specs.Exact.{PointRows, IsPaid, IsOwed, StraightEdge}
 use Rattle.pc_graph.specs.Lowering.{graph}
-use Rattle.pc_flow.specs.Shape.{IsGraph, NoSharedHead}
+use Rattle.pc_flow.specs.Shape.{IsGraph, NoSharedHead, ChecksAlone}
 use Rattle.pc_flow.specs.Walk.{IsEntry, entered}
 
 -- every graph of a program is one
@@ -24,6 +24,10 @@ GraphsAreKept = (p : Program) → IsGraph (graph p)
 -- no two loops of a program share a head
 abbrev pub LoopsHaveTheirHeads : Type 0
 LoopsHaveTheirHeads = (p : Program) → NoSharedHead (graph p).edges
+
+-- assertions are the only edges from their points
+abbrev pub ChecksStandAlone : Type 0
+ChecksStandAlone = (p : Program) → ChecksAlone (graph p)
 
 abbrev pub is_any : Test → Bool
 is_any test.Any = true

@@ -3,7 +3,7 @@
 ghost use Rattle.pc_graph.specs.Corresponds.{StepsCorrespond};
 ghost use Rattle.pc_graph.specs.Marks.{LoopsAreMarked};
 ghost use Rattle.pc_graph.specs.Places.{PlacesAreTheirs};
-ghost use Rattle.pc_graph.specs.Straight.{GraphsAreKept, LoopsHaveTheirHeads, StraightIsLoopFree, StraightGraphs, LoopFreeGraphs, PaidProgramsAreSafe, OwedIsViolated};
+ghost use Rattle.pc_graph.specs.Straight.{GraphsAreKept, LoopsHaveTheirHeads, ChecksStandAlone, StraightIsLoopFree, StraightGraphs, LoopFreeGraphs, PaidProgramsAreSafe, OwedIsViolated};
 
 /// A program and its graph take the same steps.
 pub fn steps_correspond()
@@ -18,6 +18,11 @@ pub fn graphs_are_kept()
 /// No two loops of a program share a head.
 pub fn loops_have_their_heads()
     ensures { LoopsHaveTheirHeads }
+{}
+
+/// An assertion of a program's graph is the only edge from its point.
+pub fn checks_stand_alone()
+    ensures { ChecksStandAlone }
 {}
 
 /// A loop of the program begins at each head of its graph, with the rows that the loop tries; the edges from the head lead into

@@ -12,9 +12,9 @@ mod lowering;
 mod row;
 
 pub use laws::{
-    graphs_are_kept, loop_free_graphs, loops_are_marked, loops_have_their_heads, owed_is_violated,
-    paid_programs_are_safe, places_are_theirs, steps_correspond, straight_graphs,
-    straight_is_loop_free,
+    checks_stand_alone, graphs_are_kept, loop_free_graphs, loops_are_marked,
+    loops_have_their_heads, owed_is_violated, paid_programs_are_safe, places_are_theirs,
+    steps_correspond, straight_graphs, straight_is_loop_free,
 };
 pub use lowering::lower;
 pub use pc_flow::{

@@ -27,7 +27,7 @@ left_covers : (rows more : List Linear) (r : Linear) → Covers r rows → Cover
 left_covers rows more r (inl h) = inl h
 left_covers rows more r (inr h) = inr (some_left rows more r h)
 
-right_covers : (rows more : List Linear) (r : Linear) → Covers r more → Covers r (rows ++ more)
+pub right_covers : (rows more : List Linear) (r : Linear) → Covers r more → Covers r (rows ++ more)
 right_covers rows more r (inl h) = inl h
 right_covers rows more r (inr h) = inr (some_right rows more r h)
 
@@ -47,7 +47,7 @@ with_covers_row rows r = by (is_covered r rows) refl
     by true h = covered_is r rows h
     by false h = right_covers rows (r ∷ []) r (inr (inl (refl, ≤ℤ_refl r.constant)))
 
-joined_covers : (a b : List Linear) (r : Linear) → Covers r a → Covers r (joined a b)
+pub joined_covers : (a b : List Linear) (r : Linear) → Covers r a → Covers r (joined a b)
 joined_covers a [] r h = h
 joined_covers a (q ∷ b) r h = joined_covers (with_row a q) b r (with_covers a q r h)
 
@@ -93,6 +93,11 @@ owed_covered (Test own) rows target h = owed_uncovered rows own (owes (Test own)
 owed_covered (Enter params) rows target h = each_more (λ r. Covers r rows) (Both rows []) (by_rows rows []) (owes (Enter params) target) h
 owed_covered (Set x form lo hi) rows target h = each_more (λ r. Covers r rows) (Both rows []) (by_rows rows []) (owes (Set x form lo hi) target) h
 owed_covered (Check own) rows target h = each_more (λ r. Covers r rows) (Both rows []) (by_rows rows []) (owes (Check own) target) h
+
+-- what an edge owes is covered by the join with what it demands, and the rows of its test
+pub join_covers : (w : What) (a target : List Linear) → Each (λ r. is_covered r (joined a (demanded w target) ++ test_rows w) ≡ true) (owes w target)
+unfolding Both
+join_covers w a target = owed_covered w (joined a (demanded w target)) target (joined_covers_rows a (demanded w target))
 
 pub annotation_covers : AnnotationCovers
 unfolding Both

@@ -9,7 +9,7 @@ use Rattle.pc_rows.proofs.Values.{value-constant}
 use Rattle.pc_entail.proofs.Finding.{shown_rows_are_met}
 use Rattle.pc_lower.specs.Narrowing.{nothing, IsJoined, IsKept, AreBelow}
 
-nothing_is_met : (s : State) → MeetsAll s nothing → ⊥
+pub nothing_is_met : (s : State) → MeetsAll s nothing → ⊥
 nothing_is_met s m =
     let below = m.0 in
     let v = value-constant (negsuc 0) s in

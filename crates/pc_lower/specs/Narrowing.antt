@@ -3,11 +3,12 @@ use Rattle.std.specs.Prelude.{◌≡◌, ◌<◌, ◌≤◌, ◌↔◌, ◌⊎�
 use Rattle.pc_rows.specs.Linear.{Linear, State, MeetsAll}
 use Rattle.pc_rows.specs.Joins.{joined}
 use Rattle.pc_rows.specs.declared.rows.TheConstants.{ROWS}
-use Rattle.pc_entail.specs.Showing.{minus_one, AllShown, SomeNotFound}
+use Rattle.pc_rows.specs.Substitution.{never_row}
+use Rattle.pc_entail.specs.Showing.{AllShown, SomeNotFound}
 
 -- the row that no state meets
 abbrev pub nothing : List Linear
-nothing = minus_one ∷ []
+nothing = never_row ∷ []
 
 -- the same states meet both lists
 abbrev pub MeetAlike : List Linear → List Linear → Type 0

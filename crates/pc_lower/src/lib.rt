@@ -25,6 +25,7 @@ pub use laws::{
     need_is_owed, need_is_paid, tame_candidate_fits, tame_need_fits,
 };
 pub use mode::Mode;
-pub use narrowing::{JOINING_ROUNDS, narrow};
+pub use narrowing::{JOINING_ROUNDS, narrow, nothing};
+pub use need::demanded;
 pub use pc_flow::{Annotation, rows_at};
 pub use rounds::ROUNDS;

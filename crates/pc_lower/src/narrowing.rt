@@ -50,7 +50,7 @@ fn kept(alloc: Global, old: &Rows, newer: &Rows) -> Result<Rows, NoMemory>
 }
 
 /// The row -1 alone, which no state meets.
-fn nothing(alloc: Global) -> Result<Rows, NoMemory>
+pub fn nothing(alloc: Global) -> Result<Rows, NoMemory>
     ensures { IfOk result (λ rows. rows ≡ nothing) }
 {
     single(alloc, Row::of_constant(alloc, -1))

@@ -41,6 +41,14 @@ pub fn needed_at(
     Ok(needed)
 }
 
+/// The rows that an edge alone demands of the point that it leaves, for the rows at its target: those rows carried back, without
+/// what the edge's test covers, and behind an assertion's own rows; each of them where those before it do not cover it.
+pub fn demanded(alloc: Global, e: &Edge, target: &Rows) -> Result<Rows, CandidateFault>
+    ensures { Answers (edge_operations e.now.what [] target.now) (joined [] (demanded e.now.what target.now)) result }
+{
+    with_edge(alloc, true, &Rows::new(alloc), e, target)
+}
+
 /// The rows of a point so far, joined with what an edge from it demands for the rows at its target.
 fn with_edge(
     alloc: Global,

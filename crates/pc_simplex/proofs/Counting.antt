@@ -8,7 +8,8 @@ use Rattle.pc_rows.specs.Evidence.{IsAbove}
 use Rattle.pc_simplex.specs.declared.label.Label.TheVariants.{Variable, Row}
 use Rattle.pc_simplex.specs.Values.{Line, Table}
 use Rattle.pc_simplex.specs.Turns.{variables_from, lines_of}
-use Rattle.pc_simplex.specs.Found.{constant_of, numerators_from, part_of, multiplier_of, parts_from}
+use Rattle.pc_simplex.specs.Found.{multiplier_of, parts_from}
+use Rattle.pc_rows.specs.Parts.{part_of}
 
 pub variables_next : (n v : ℕ) → v < n → variables_from (n - v) v ≡ Variable v ∷ variables_from (n - (v + 1)) (v + 1)
 unfolding variables_from
@@ -17,14 +18,6 @@ variables_next n v lt = let s : n - v ≡ suc (n - (v + 1)) = omega arith in ap 
 pub variables_end : (n v : ℕ) → n ≤ v → variables_from (n - v) v ≡ []
 unfolding variables_from
 variables_end n v le = let s : n - v ≡ 0 = omega arith in ap (λ (m : ℕ). variables_from m v) s
-
-pub numerators_next : (n v : ℕ) (ls : List Line) → v < n → numerators_from (n - v) v ls ≡ constant_of (Variable v) ls ∷ numerators_from (n - (v + 1)) (v + 1) ls
-unfolding numerators_from
-numerators_next n v ls lt = let s : n - v ≡ suc (n - (v + 1)) = omega arith in ap (λ (m : ℕ). numerators_from m v ls) s
-
-pub numerators_end : (n v : ℕ) (ls : List Line) → n ≤ v → numerators_from (n - v) v ls ≡ []
-unfolding numerators_from
-numerators_end n v ls le = let s : n - v ≡ 0 = omega arith in ap (λ (m : ℕ). numerators_from m v ls) s
 
 pub lines_of-end : (i : ℕ) (rs : List Linear) (r : Linear) (n : ℕ) → n ≡ i + length rs →
     lines_of i (rs ++ r ∷ []) ≡ lines_of i rs ++ (record { label = Row n; constant = r.constant; numbers = r.coefficients }) ∷ []

@@ -3,6 +3,8 @@ pub mod Places
 pub mod TermLists
 pub mod Multiples
 pub mod Nothing
+pub mod Zeros
+pub mod PointLines
 pub mod Picking
 pub mod Ending
 pub mod Answering

@@ -2,8 +2,8 @@
 use Rattle.std.specs.Prelude.{ℕ, zero, suc, ◌+◌, ◌==◌, ℤ, pos, neg_ℤ, Bool, false, List, [], ◌∷◌, ◌++◌, if◌then◌else◌}
 use Rattle.pc_rows.specs.declared.row.TheConstants.{VARIABLES}
 use Rattle.pc_rows.specs.declared.proof.Part.{Part}
-use Rattle.pc_rows.specs.Linear.{is_zero}
 use Rattle.pc_rows.specs.Evidence.{Point, Proof}
+use Rattle.pc_rows.specs.Parts.{part_of}
 use Rattle.pc_simplex.specs.declared.label.Label.{Label}
 use Rattle.pc_simplex.specs.declared.label.Label.TheVariants.{Variable, Row}
 use Rattle.pc_simplex.specs.Values.{Line, Table}
@@ -26,8 +26,11 @@ numerators_from zero v ls = []
 numerators_from (suc n) v ls = constant_of (Variable v) ls ∷ numerators_from n (v + 1) ls
 
 -- a variable that labels a line is that line's constant over the denominator, and every other is 0
+abbrev pub point_at : ℤ → List Line → Point
+point_at d ls = record { numerators = numerators_from VARIABLES 0 ls; denominator = d }
+
 abbrev pub point_of : Table → Point
-point_of t = record { numerators = numerators_from VARIABLES 0 t.lines; denominator = t.denominator }
+point_of t = point_at t.denominator t.lines
 
 -- the number in the column with the label, or 0 where there is none
 abbrev pub number_of : Label → List Label → List ℤ → ℤ
@@ -38,10 +41,6 @@ number_of label (c ∷ cs) (x ∷ xs) = if is_label label c then x else number_o
 -- what row i is multiplied by where line l is stuck: the denominator for its own label, and the opposite of its number for that of a column
 abbrev pub multiplier_of : Table → Line → ℕ → ℤ
 multiplier_of t l i = if is_label (Row i) l.label then t.denominator else neg_ℤ (number_of (Row i) t.columns l.numbers)
-
--- a multiplier of 0 makes no part
-abbrev pub part_of : ℕ → ℤ → List Part
-part_of i m = if is_zero m then [] else ((record { index = i; multiplier = m }) ∷ [])
 
 -- of the n rows from i on
 abbrev pub parts_from : Table → Line → ℕ → ℕ → List Part

@@ -1,5 +1,6 @@
 -- The values that the search computes with.
-use Rattle.std.specs.Prelude.{ℕ, ℤ, List}
+use Rattle.std.specs.Prelude.{ℕ, ℤ, pos, List, ◌≡◌}
+use Rattle.std.specs.List.{AllByRecursion}
 use Rattle.pc_simplex.specs.declared.label.Label.{Label}
 
 -- a line of a table: its label, its constant, and its number in each column
@@ -24,3 +25,7 @@ pub record Pivot : Type 0 where
   pub denominator : ℤ
   pub column : ℕ
   pub line : Line
+
+-- numbers that are 0
+abbrev pub AreZero : List ℤ → Type 0
+AreZero xs = AllByRecursion (λ x. x ≡ pos 0) xs

@@ -49,12 +49,14 @@ pub fn leaving(lines: &[Line]) -> Option<Pick>
 }
 
 /// The column to enter: of those that may, the one with the first label.
-pub fn entering(columns: &[Label; VARIABLES], numbers: &[Number; VARIABLES]) -> Option<Pick>
-    ensures value { result ≡ first_of (entering_each columns.now numbers.now) }
-    ensures entry { IfSome result (λ q. (q.index < VARIABLES) × (slice_index_or numbers.now q.index (pos 0) ≢ pos 0)) }
+pub fn entering(columns: &[Label; VARIABLES], line: &Line) -> Option<Pick>
+    ensures value { result ≡ first_of (entering_each columns.now line.now.numbers) }
+    ensures entry { IfSome result (λ q. (q.index < VARIABLES) × (slice_index_or line.now.numbers q.index (pos 0) ≢ pos 0)) }
 {
+    let numbers = line.numbers();
+    let width = line.width();
     let mut best = None;
-    for k in 0..VARIABLES {
+    for k in 0..width {
         best = earlier(best, k, may_enter(columns[k], numbers[k]));
     }
     best

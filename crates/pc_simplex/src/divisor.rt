@@ -3,6 +3,7 @@
 ghost use Rattle.std.specs.Prelude.{◌≡◌, ◌≤ℤ◌, ◌*ℤ◌, int_div, int_rem, pos, true, OkIff, IfSome};
 ghost use Rattle.pc_rows.specs.Linear.{InRange};
 
+use crate::word::Word;
 use pc_rows::{Number, Past};
 use std::marker::Model;
 
@@ -61,16 +62,42 @@ impl Divisor {
     fn multiple(&self, n: Number) -> Option<Number>
         ensures { IfSome result (λ q. (q *ℤ self.now ≡ n) × InRange q) }
     {
-        let wide = n.get();
         // most denominators are 1
         if self.number == Number::new(1) {
             return Some(n);
         }
-        match Number::checked(wide.wrapping_shr(self.zeros).wrapping_mul(self.inverse)) {
-            Some(guess) if is_product(guess, self.number, n) => Some(guess),
+        match self.word_multiple(n) {
+            Some(quotient) => Some(quotient),
+            None => self.wide_multiple(n),
+        }
+    }
+
+    /// The same, where the quotient and the divisor are words. Half of the inverse is then enough.
+    fn word_multiple(&self, n: Number) -> Option<Number>
+        ensures { IfSome result (λ q. (q *ℤ self.now ≡ n) × InRange q) }
+    {
+        let guess = low_word(n.get().wrapping_shr(self.zeros)).wrapping_mul(low_word(self.inverse));
+        let quotient = Number::new(guess.cast_signed() as i128);
+        match (Word::of(quotient), Word::of(self.number)) {
+            (Some(q), Some(d)) if q.times(d) == n.get() => Some(quotient),
             _ => None,
         }
     }
+
+    fn wide_multiple(&self, n: Number) -> Option<Number>
+        ensures { IfSome result (λ q. (q *ℤ self.now ≡ n) × InRange q) }
+    {
+        let guess = n.get().wrapping_shr(self.zeros).wrapping_mul(self.inverse);
+        match Number::checked(guess) {
+            Some(quotient) if is_product(quotient, self.number, n) => Some(quotient),
+            _ => None,
+        }
+    }
+}
+
+/// The low half of the number's bits.
+fn low_word(n: i128) -> u64 {
+    (n.cast_unsigned() & 18446744073709551615) as u64
 }
 
 /// Whether the product is in range and is this number.
@@ -97,6 +124,9 @@ fn divided(n: Number, d: Number) -> Result<Number, Past>
 /// The inverse of an odd number modulo 2^128. The number is its own inverse modulo 8, and each turn
 /// makes twice as many bits right.
 fn inverse(odd: i128) -> i128 {
+    if odd == 1 {
+        return 1;
+    }
     let mut inverse = odd;
     for _ in 0..6u32 {
         inverse = inverse.wrapping_mul(2i128.wrapping_sub(odd.wrapping_mul(inverse)));

@@ -1,15 +1,14 @@
 //! What a table tells at the end: a point, or multipliers.
 
-ghost use Rattle.std.specs.Prelude.{◌≡◌, ◌<◌, pos, ◌≤ℤ◌, ◌≤◌, ◌++◌, IfOk, length};
+ghost use Rattle.std.specs.Prelude.{◌≡◌, ◌<◌, ℤ, pos, ◌≤ℤ◌, ◌≤◌, List, ◌∷◌, IfOk, length};
 ghost use Rattle.pc_rows.specs.declared.system.TheConstants.{PREMISES};
-ghost use Rattle.pc_rows.specs.Evidence.{IsAbove};
-ghost use Rattle.pc_simplex.specs.Choosing.{line_at};
-ghost use Rattle.pc_simplex.specs.Found.{constant_of, point_of, number_of, multiplier_of, part_of, proof_of};
+ghost use Rattle.pc_simplex.specs.Values.{Line as Kept};
+ghost use Rattle.pc_simplex.specs.Found.{point_of, point_at, number_of, multiplier_of, proof_of};
 
 use crate::label::Label;
 use crate::line::Line;
 use crate::table::Table;
-use pc_rows::{NoMemory, Number, Part, Parts, Past, Point, Proof, VARIABLES};
+use pc_rows::{NoMemory, Number, Parts, Past, Point, Proof, VARIABLES};
 use std::alloc::Global;
 
 /// The point of a table: a variable that labels a line is that line's constant over the
@@ -19,22 +18,22 @@ pub fn point(t: &Table) -> Result<Point, Past>
     ensures positive { pos 1 ≤ℤ t.now.denominator }
 {
     let mut point = Point::origin().over_multiple(t.denominator())?;
-    for v in 0..VARIABLES as u32 {
-        point = point.with(v, constant_of(Label::Variable(v), t.lines()));
+    let lines = t.lines();
+    // the first line with a label counts, so it is written last
+    for behind in 0..lines.len() {
+        point = with_line(point, &lines[lines.len() - 1 - behind]);
     }
     Ok(point)
 }
 
-/// The constant of the line with the label, or 0 where there is none.
-fn constant_of(label: Label, lines: &[Line]) -> Number
-    ensures { result ≡ constant_of label lines.now }
+/// The point of some lines, and of this one before them.
+fn with_line(point: Point, line: &Line) -> Point
+    ensures { (d : ℤ) (ls : List Kept) → point ≡ point_at d ls → result ≡ point_at d (line.now ∷ ls) }
 {
-    for line in lines {
-        if label.is(line.label()) {
-            return line.constant();
-        }
+    match line.label() {
+        Label::Variable(v) if v < VARIABLES as u32 => point.with(v, line.constant()),
+        _ => point,
     }
-    Number::new(0)
 }
 
 /// The multipliers where line `r` is stuck.
@@ -46,24 +45,9 @@ pub fn proof(alloc: Global, premises: usize, t: &Table, r: usize) -> Result<Proo
     let line = t.line(r);
     let mut parts = Parts::new(alloc);
     for i in 0..premises {
-        add_part(&mut parts, i as u32, multiplier_of(t, line, i as u32))?;
+        parts.add(i as u32, multiplier_of(t, line, i as u32))?;
     }
     Ok(Proof::new(multiplier_of(t, line, premises as u32), parts))
-}
-
-/// Puts a part at the end, unless its multiplier is 0.
-fn add_part(parts: &mut Parts, i: u32, multiplier: Number) -> Result<(), NoMemory>
-    requires premise { i < PREMISES }
-    requires rising { IsAbove i parts.old }
-    ensures { IfOk result (λ _. parts.new ≡ parts.old ++ part_of i multiplier) }
-{
-    if multiplier.is_zero() {
-        return Ok(());
-    }
-    parts.push(Part {
-        index: i,
-        multiplier,
-    })
 }
 
 /// What row `i` is multiplied by where the line is stuck.
@@ -73,14 +57,16 @@ fn multiplier_of(t: &Table, line: &Line, i: u32) -> Number
     if Label::Row(i).is(line.label()) {
         return t.denominator();
     }
-    number_of(Label::Row(i), t.columns(), line.numbers()).negated()
+    number_of(Label::Row(i), t.columns(), line).negated()
 }
 
 /// The number in the column with the label, or 0 where there is none.
-fn number_of(label: Label, columns: &[Label; VARIABLES], numbers: &[Number; VARIABLES]) -> Number
-    ensures { result ≡ number_of label columns.now numbers.now }
+fn number_of(label: Label, columns: &[Label; VARIABLES], line: &Line) -> Number
+    ensures { result ≡ number_of label columns.now line.now.numbers }
 {
-    for k in 0..VARIABLES {
+    let numbers = line.numbers();
+    let width = line.width();
+    for k in 0..width {
         if label.is(columns[k]) {
             return numbers[k];
         }

@@ -9,6 +9,7 @@
 #![tactic(auto)]
 
 mod choice;
+mod difference;
 mod divisor;
 mod found;
 mod guess;
@@ -16,6 +17,7 @@ mod label;
 mod line;
 mod table;
 mod turns;
+mod word;
 
 pub use guess::{Guess, search};
 pub use turns::PIVOTS;

@@ -1,9 +1,8 @@
 //! Lines of a table.
 
-ghost use Rattle.std.specs.Prelude.{◌≡◌, ◌<◌, length};
-ghost use Rattle.pc_rows.specs.Linear.{IsRow};
-ghost use Rattle.pc_simplex.specs.Choosing.{leaving};
-ghost use Rattle.pc_simplex.specs.Choosing.{number_at};
+ghost use Rattle.std.specs.Prelude.{◌≡◌, ◌<◌, ◌≤◌, ℕ, pos, length, drop, replicate};
+ghost use Rattle.pc_simplex.specs.Choosing.{leaving, number_at};
+ghost use Rattle.pc_simplex.specs.Values.{AreZero};
 ghost use Rattle.pc_simplex.specs.declared.label.Label.TheVariants.{Row as OfRow};
 
 use crate::label::Label;
@@ -14,48 +13,58 @@ mod pivot;
 
 pub use pivot::Pivot;
 
-/// A line of a table: its label, its constant, and its number in each column.
-#[derive(Clone, Copy)]
+/// A line of a table: its label, its constant, and its number in each column. From column `width`
+/// on its numbers are 0, so that loops over them end there.
+#[derive(Drop)]
 pub struct Line {
     label: Label,
     constant: Number,
+    width: usize,
     numbers: [Number; VARIABLES],
 }
 
 impl Model for Line {
-    ghost use Rattle.std.specs.Prelude.{◌≡◌, length};
+    ghost use Rattle.std.specs.Prelude.{◌≡◌, ◌≤◌, length, drop};
     ghost use Rattle.pc_rows.specs.declared.row.TheConstants.{VARIABLES};
-    ghost use Rattle.pc_simplex.specs.Values.{Line as Kept};
+    ghost use Rattle.pc_simplex.specs.Values.{Line as Kept, AreZero};
 
     ghost Value = { Kept };
 
     ghost view = { λ l. record { label = l.label; constant = l.constant; numbers = l.numbers } };
 
-    ghost invariant = { λ l. length l.numbers ≡ VARIABLES };
-
-    ghost inverse = { λ l. record { label = l.label; constant = l.constant; numbers = l.numbers } };
+    ghost invariant = { λ l. (length l.numbers ≡ VARIABLES) × (l.width ≤ VARIABLES) × AreZero (drop l.width l.numbers) };
 }
 
 impl Line {
-    /// A line by its parts.
-    pub fn new(label: Label, constant: Number, numbers: [Number; VARIABLES]) -> Line
-        ensures { result ≡ record { label = label; constant = constant; numbers = numbers } }
-    {
-        Line {
-            label,
-            constant,
-            numbers,
-        }
-    }
-
     /// The line of row `i`.
     pub fn of_row(i: u32, r: &Row) -> Line
         ensures { result ≡ record { label = OfRow i; constant = r.now.constant; numbers = r.now.coefficients } }
     {
+        let constant = Number::new(r.constant());
+        let mut numbers = zeros();
+        let mut width = 0;
+        for k in 0..r.terms() {
+            let (v, c) = r.term(k);
+            numbers[v as usize] = Number::new(c);
+            width = greater(width, v as usize + 1);
+        }
         Line {
             label: Label::Row(i),
-            constant: Number::new(r.constant()),
-            numbers: coefficients(r),
+            constant,
+            width,
+            numbers,
+        }
+    }
+
+    /// The same line.
+    pub fn copy(&self) -> Line
+        ensures { result ≡ self.now }
+    {
+        Line {
+            label: self.label,
+            constant: self.constant,
+            width: self.width,
+            numbers: self.numbers,
         }
     }
 
@@ -89,6 +98,15 @@ impl Line {
         self.numbers[j]
     }
 
+    /// A column from which on all numbers are 0.
+    pub fn width(&self) -> usize
+        ensures most { result ≤ VARIABLES }
+        ensures long { length self.now.numbers ≡ VARIABLES }
+        ensures zero { AreZero (drop result self.now.numbers) }
+    {
+        self.width
+    }
+
     /// The label, where the line may leave the rows.
     pub fn leaving(&self) -> Option<Label>
         ensures { result ≡ leaving self.now.label self.now.constant }
@@ -106,15 +124,18 @@ impl Line {
     }
 }
 
-/// The coefficients of a row, by variable.
-fn coefficients(r: &Row) -> [Number; VARIABLES]
-    requires { length r.now.coefficients ≡ VARIABLES }
-    ensures { result ≡ r.now.coefficients }
+/// A 0 in each column.
+fn zeros() -> [Number; VARIABLES]
+    ensures { result ≡ replicate VARIABLES (pos 0) }
 {
-    let mut all = [Number::new(0); VARIABLES];
-    for k in 0..r.terms() {
-        let (v, c) = r.term(k);
-        all[v as usize] = Number::new(c);
-    }
-    all
+    [Number::new(0); VARIABLES]
+}
+
+/// The greater of the two.
+fn greater(a: usize, b: usize) -> usize
+    ensures left { a ≤ result }
+    ensures right { b ≤ result }
+    ensures least { (n : ℕ) → a ≤ n → b ≤ n → result ≤ n }
+{
+    if a < b { b } else { a }
 }

@@ -98,7 +98,7 @@ impl Table {
         ensures value { result ≡ chosen_in r (first_of (entering_each self.now.columns (line_at self.now r).numbers)) }
         ensures choice { IsChoice self.now result }
     {
-        match entering(&self.columns, self.line(r).numbers()) {
+        match entering(&self.columns, self.line(r)) {
             None => Choice::Stuck(r),
             Some(q) => Choice::Exchange(r, q.index),
         }

@@ -1,10 +1,11 @@
 //! What a pivot makes of the lines of a table.
 
-ghost use Rattle.std.specs.Prelude.{◌≡◌, ◌≢◌, ◌<◌, ◌≤ℤ◌, ◌*ℤ◌, ◌-ℤ◌, pos, true, OkIff, OnOk, length};
-ghost use Rattle.pc_rows.specs.Linear.{InRange};
+ghost use Rattle.std.specs.Prelude.{◌≡◌, ◌≢◌, ◌<◌, ◌≤ℤ◌, ◌≤◌, pos, true, OkIff, length, drop};
+ghost use Rattle.pc_simplex.specs.Values.{AreZero};
 ghost use Rattle.pc_simplex.specs.Pivoting.{entry, is_up, signed, cell, cell_fits, number_after, number_fits, numbers_after, numbers_fit, other_after, other_fits, own_after, own_number, own_numbers, line_after, line_fits, ChangeIs};
 
-use super::Line;
+use super::{Line, greater};
+use crate::difference::difference;
 use crate::divisor::Divisor;
 use crate::label::Label;
 use pc_rows::{Number, Past, VARIABLES};
@@ -44,7 +45,7 @@ impl Pivot {
         Pivot {
             divisor: Divisor::new(denominator),
             column,
-            line: *line,
+            line: line.copy(),
             entry,
             up: !entry.is_at_most(Number::new(0)),
         }
@@ -57,14 +58,26 @@ impl Pivot {
         signed(self.up, self.entry)
     }
 
+    /// A column behind that of the pivot, from which on the numbers of its line are 0.
+    fn width(&self) -> usize
+        ensures column { self.now.column < result }
+        ensures most { result ≤ VARIABLES }
+        ensures long { length self.now.line.numbers ≡ VARIABLES }
+        ensures zero { AreZero (drop result self.now.line.numbers) }
+    {
+        greater(self.line.width(), self.column + 1)
+    }
+
     /// What the pivot's own line becomes, with the label of the column.
     fn own_after(&self, label: Label) -> Line
         ensures { result ≡ own_after self.now label }
     {
+        let width = self.width();
         Line {
             label,
             constant: signed(self.up, self.line.constant).negated(),
-            numbers: self.own_numbers(),
+            width,
+            numbers: self.own_numbers(width),
         }
     }
 
@@ -80,11 +93,15 @@ impl Pivot {
         self.change_other(line)
     }
 
-    fn own_numbers(&self) -> [Number; VARIABLES]
-        ensures { result ≡ own_numbers self.now 0 self.now.line.numbers }
+    fn own_numbers(&self, width: usize) -> [Number; VARIABLES]
+        requires column { self.now.column < width }
+        requires most { width ≤ VARIABLES }
+        requires zero { AreZero (drop width self.now.line.numbers) }
+        ensures value { result ≡ own_numbers self.now 0 self.now.line.numbers }
+        ensures zero { AreZero (drop width result) }
     {
         let mut all = self.line.numbers;
-        for k in 0..VARIABLES {
+        for k in 0..width {
             all[k] = self.own_number(k == self.column, self.line.numbers[k]);
         }
         all
@@ -104,15 +121,27 @@ impl Pivot {
         ensures { ChangeIs (other_fits self.now line.old) (other_after self.now line.old) result line.new }
     {
         let factor = line.number(self.column);
+        let width = greater(line.width(), self.width());
         line.constant = self.cell(factor, line.constant, self.line.constant)?;
-        self.change_numbers(factor, &mut line.numbers)
+        line.width = width;
+        self.change_numbers(factor, width, &mut line.numbers)
     }
 
-    fn change_numbers(&self, factor: Number, numbers: &mut [Number; VARIABLES]) -> Result<(), Past>
+    /// Changes the numbers before column `width`; behind it they stay 0.
+    fn change_numbers(
+        &self,
+        factor: Number,
+        width: usize,
+        numbers: &mut [Number; VARIABLES],
+    ) -> Result<(), Past>
+        requires most { width ≤ VARIABLES }
+        requires pivot { AreZero (drop width self.now.line.numbers) }
+        requires zero { AreZero (drop width numbers.old) }
         ensures value { ChangeIs (numbers_fit self.now factor 0 numbers.old self.now.line.numbers) (numbers_after self.now factor 0 numbers.old self.now.line.numbers) result numbers.new }
         ensures long { length numbers.new ≡ VARIABLES }
+        ensures rest { AreZero (drop width numbers.new) }
     {
-        for k in 0..VARIABLES {
+        for k in 0..width {
             numbers[k] = self.number_after(
                 factor,
                 k == self.column,
@@ -143,12 +172,6 @@ impl Pivot {
         let difference = difference(self.entry, x, factor, y)?;
         Ok(signed(self.up, self.divisor.divide(difference)?))
     }
-}
-
-fn difference(a: Number, x: Number, b: Number, y: Number) -> Result<Number, Past>
-    ensures { OkIff result (InRange (a *ℤ x) × InRange (b *ℤ y) × InRange (a *ℤ x -ℤ b *ℤ y)) (a *ℤ x -ℤ b *ℤ y) }
-{
-    a.times(x)?.minus(b.times(y)?)
 }
 
 fn signed(up: bool, n: Number) -> Number

@@ -55,5 +55,14 @@ returns-clause-ruled g c = ends.ruled _ _ _ _ _ _ _ _ _ c.respond.ensures.ends
 pub returns-clause-shown : goal.returns-clause-shown
 returns-clause-shown g c = ends.shown _ _ _ _ _ _ _ _ _ c.respond.ensures.ends
 
+pub returns-clause-known : goal.returns-clause-known
+returns-clause-known g c = ends.known _ _ _ _ _ _ _ _ _ c.respond.ensures.ends
+
+pub returns-clause-enough : goal.returns-clause-enough
+returns-clause-enough g c = ends.enough _ _ _ _ _ _ _ _ _ c.respond.ensures.ends
+
+pub returns-clause-trial : goal.returns-clause-trial
+returns-clause-trial g c = ends.trial _ _ _ _ _ _ _ _ _ c.respond.ensures.ends
+
 pub returns-clause-answers : goal.returns-clause-answers
 returns-clause-answers g c = ends.answers _ _ _ _ _ _ _ _ _ c.respond.ensures.ends

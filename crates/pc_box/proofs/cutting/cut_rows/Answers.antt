@@ -9,4 +9,4 @@ loop-k-preserved c =
     let r = c.at.result.now in
     let there : slice_get rows c.loop-k.k ≡ Some r = search rules in
     let new : c.in_ok-left.left ≡ cut_row c.loop-k.left r = search rules in
-    next_row rows c.loop-k.k r c.loop-k.left c.in_ok-left.left (cut_rows (Some c.args.bounds.now) rows) there new c.loop-k.invariant
+    next_row cut_row rows c.loop-k.k r c.loop-k.left c.in_ok-left.left (cut_rows (Some c.args.bounds.now) rows) there new c.loop-k.invariant

@@ -1,31 +1,16 @@
-use Rattle.std.proofs.Common.{◌∙◌, ◌++◌, ◌∷◌, ◌-◌, ◌+◌, ap, sym, arith, ℤ, List, take, length, Ok}
-use Rattle.std.proofs.lemmas.List.{length-set, take_all, append-nil}
-use Rattle.pc_rows.specs.declared.row.TheConstants.{VARIABLES}
-use Rattle.pc_rows.specs.Evidence.{Point as Place}
-use Rattle.pc_simplex.specs.declared.label.Label.TheVariants.{Variable}
-use Rattle.pc_simplex.specs.Found.{constant_of, numerators_from, point_of}
-use Rattle.pc_simplex.proofs.Counting.{numerators_next, numerators_end}
-use Rattle.pc_simplex.proofs.Places.{written}
-use Rattle.pc_simplex.proofs.Answering.{same_point}
+use Rattle.std.proofs.Common.{◌∙◌, ◌-◌, sym, ap, arith, length}
+use Rattle.std.proofs.lemmas.List.{drop_all}
+use Rattle.pc_simplex.specs.Found.{point_at}
+use Rattle.pc_simplex.proofs.PointLines.{nowhere, one_before}
 use Rattle.pc_simplex.proofs.found.point.Goals as goal
 
-pub loop-v-preserved : goal.loop-v-preserved
-loop-v-preserved c =
-    let v = c.loop-v.v in
+pub loop-behind-init : goal.loop-behind-init
+loop-behind-init c =
+    let d = c.args.t.now.denominator in
     let ls = c.args.t.now.lines in
-    let more = numerators_from (VARIABLES - (v + 1)) (v + 1) ls in
-    record {
-      long = ap (λ (p : Place). length p.numerators) c.with-point.ensures ∙ length-set c.loop-v.point.numerators v c.constant_of.result ∙ c.loop-v.invariant.long;
-      over = ap (λ (p : Place). p.denominator) c.with-point.ensures ∙ c.loop-v.invariant.over;
-      rest =
-          ap (λ (p : Place). take (v + 1) p.numerators ++ more) c.with-point.ensures
-          ∙ written c.loop-v.point.numerators v c.constant_of.result more (numerators_from (VARIABLES - v) v ls) _ (omega (arith, c.loop-v.invariant.long)) (numerators_next VARIABLES v ls (omega arith) ∙ ap (λ (z : ℤ). z ∷ more) (sym (c.constant_of.ensures ∙ ap (constant_of (Variable v)) c.lines.ensures))) c.loop-v.invariant.rest;
-    }
+    nowhere c.denominator.result d c.in_ok-point.point c.origin.result c.denominator.ensures.value c.origin.ensures c.in_ok-point.ensures.1
+    ∙ ap (point_at d) (sym (drop_all (length ls - 0) ls (omega arith)))
 
-pub returns-clause-value : goal.returns-clause-value
-returns-clause-value c =
-    let ns = c.loop-v.point.numerators in
-    ap Ok (same_point c.loop-v.point (point_of c.args.t.now) (sym (take_all c.loop-v.v ns (omega (arith, c.loop-v.invariant.long)))
-    ∙ sym (append-nil (take c.loop-v.v ns))
-    ∙ ap (λ (z : List ℤ). take c.loop-v.v ns ++ z) (sym (numerators_end VARIABLES c.loop-v.v c.args.t.now.lines (omega arith)))
-    ∙ c.loop-v.invariant.rest) c.loop-v.invariant.over)
+pub loop-behind-preserved : goal.loop-behind-preserved
+loop-behind-preserved c =
+    one_before c.args.t.now.denominator c.lines-lines.result.now c.args.t.now.lines c.loop-behind.behind _ c.index-lines-lines.result c.loop-behind.point c.with_line-point.result c.lines-lines.ensures (omega (arith, c.loop-behind-test.true)) (omega (arith, c.loop-behind-test.true)) c.index-lines-lines.is c.loop-behind.invariant c.with_line-point.ensures

@@ -1,0 +1,19 @@
+use Rattle.pc_app.proofs.answer.answer_to_command.Goals as goal
+
+pub returns-in-Infer-clause-answered : goal.returns-in-Infer-clause-answered
+returns-in-Infer-clause-answered g c = rw c.in-Infer.is c.answer_to_infer.ensures.answered
+
+pub returns-in-Certify-clause-answered : goal.returns-in-Certify-clause-answered
+returns-in-Certify-clause-answered g c = rw c.in-Certify.is c.answer_to_certify.ensures.answered
+
+pub returns-in-Replay-clause-answered : goal.returns-in-Replay-clause-answered
+returns-in-Replay-clause-answered g c = rw c.in-Replay.is c.answer_to_replay.ensures.answered
+
+pub returns-in-Run-clause-answered : goal.returns-in-Run-clause-answered
+returns-in-Run-clause-answered g c = rw c.in-Run.is c.answer_to_run.ensures.answered
+
+pub returns-in-Show-clause-answered : goal.returns-in-Show-clause-answered
+returns-in-Show-clause-answered g c = rw c.in-Show.is c.answer_to_show.ensures.answered
+
+pub returns-in-Facts-clause-answered : goal.returns-in-Facts-clause-answered
+returns-in-Facts-clause-answered g c = rw c.in-Facts.is c.answer_to_facts.ensures.answered

@@ -1,0 +1,80 @@
+//! What the words `trial` are answered: how large a made source is, and its condition.
+
+ghost use Rattle.std.specs.Prelude.{◌≡◌, ◌≤◌, length, IfOk};
+ghost use Rattle.pc_gen.specs.Made.{IsLoops, made};
+ghost use Rattle.pc_gen.specs.declared.made.TheConstants.{MADE_BYTES};
+ghost use Rattle.pc_syntax.specs.Spelling.{Spells};
+ghost use Rattle.pc_app.specs.Trials.{TrialAnswers, IsTrial, IsSize};
+
+use crate::answer::Answer;
+use crate::infer::certificate_of;
+use crate::status::DONE;
+use pc_cert::show_condition;
+use pc_certificate::Certificate;
+use pc_gen::{Summary, make, push_summary};
+use pc_graph::lower;
+use pc_program::Program;
+use pc_syntax::{SourceFault, read};
+use pc_text::{NoMemory, Text};
+use std::alloc::Global;
+
+/// The answer to `trial`.
+pub(crate) fn answer_to_trial(alloc: Global, loops: u32) -> Result<Answer, NoMemory>
+    requires { IsLoops loops }
+    ensures { IfOk result (λ a. TrialAnswers loops a.status a.text) }
+{
+    let source = make(alloc, loops)?;
+    let program = program_of(alloc, source.bytes(), loops)?;
+    Ok(Answer {
+        status: DONE,
+        text: told(alloc, loops, source.bytes(), &program)?,
+    })
+}
+
+/// The program that a made source spells. Each of them spells one, so memory alone may be wanting.
+fn program_of(alloc: Global, source: &[u8], loops: u32) -> Result<Program, NoMemory>
+    requires loops { IsLoops loops }
+    requires made { source.now ≡ made loops }
+    requires short { length source.now ≤ MADE_BYTES }
+    ensures { IfOk result (Spells source.now) }
+{
+    match read(alloc, source) {
+        Ok(program) => Ok(program),
+        Err(SourceFault::NoMemory) => Err(NoMemory),
+        Err(_) => unreachable!(),
+    }
+}
+
+/// What is told of a made source and its program.
+fn told(alloc: Global, loops: u32, source: &[u8], program: &Program) -> Result<Text, NoMemory>
+    requires made { source.now ≡ made loops }
+    requires spelled { Spells source.now program.now }
+    ensures { IfOk result (IsTrial loops) }
+{
+    let certificate = certificate_of(alloc, program)?;
+    let summary = summary_of(alloc, loops, source, program, &certificate)?;
+    let mut text = Text::new(alloc);
+    push_summary(&mut text, summary)?;
+    text.push_all(show_condition(alloc, &certificate, &program.names)?.bytes())?;
+    Ok(text)
+}
+
+/// How large a made source, its graph and its condition are.
+fn summary_of(
+    alloc: Global,
+    loops: u32,
+    source: &[u8],
+    program: &Program,
+    certificate: &Certificate,
+) -> Result<Summary, NoMemory>
+    ensures { IfOk result (IsSize loops source.now program.now (length certificate.now.alternatives)) }
+{
+    let graph = lower(alloc, program)?;
+    Ok(Summary {
+        loops,
+        bytes: source.len(),
+        points: graph.points(),
+        edges: graph.edges(),
+        alternatives: certificate.alternatives.len(),
+    })
+}

@@ -1,0 +1,5 @@
+pub mod Joins
+pub mod Viewing
+pub mod Same
+pub mod States
+pub mod Keeping

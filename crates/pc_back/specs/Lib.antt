@@ -1,0 +1,3 @@
+pub mod Needs
+pub mod Views
+pub mod Laws

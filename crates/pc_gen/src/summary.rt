@@ -1,0 +1,40 @@
+//! The line that tells how large a made source is, and what came out.
+
+ghost use Rattle.std.specs.Prelude.{◌≡◌, ◌++◌, OnOk};
+ghost use Rattle.pc_gen.specs.Summary.{size_text, summary_text};
+
+use crate::pieces::push_counted;
+use pc_text::{NoMemory, Text};
+
+/// What is told of a made source.
+#[derive(Clone, Copy, Debug)]
+pub struct Summary {
+    /// How many loops it has.
+    pub loops: u32,
+    /// How many bytes its text has.
+    pub bytes: usize,
+    /// How many points its graph has.
+    pub points: u32,
+    /// How many edges its graph has.
+    pub edges: u32,
+    /// How many alternatives its condition has: none where that is `false`.
+    pub alternatives: usize,
+}
+
+/// Adds the line of a summary.
+pub fn push_summary(text: &mut Text, summary: Summary) -> Result<(), NoMemory>
+    ensures { OnOk result (text.new ≡ text.old ++ summary_text summary) }
+{
+    push_counted(text, b"trial ", summary.loops as usize, b": ")?;
+    push_size(text, summary)?;
+    push_counted(text, b"", summary.alternatives, b" alternatives\n")
+}
+
+/// Adds how large the source is.
+fn push_size(text: &mut Text, summary: Summary) -> Result<(), NoMemory>
+    ensures { OnOk result (text.new ≡ text.old ++ size_text summary) }
+{
+    push_counted(text, b"", summary.bytes, b" bytes, ")?;
+    push_counted(text, b"", summary.points as usize, b" points, ")?;
+    push_counted(text, b"", summary.edges as usize, b" edges, ")
+}

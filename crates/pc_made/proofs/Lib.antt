@@ -1,0 +1,5 @@
+mod Lists
+mod Texts
+mod Sanity
+mod Shown
+pub mod Spelled

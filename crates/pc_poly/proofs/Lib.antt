@@ -1,0 +1,9 @@
+pub mod Gathering
+pub mod Eliminating
+pub mod Assigning
+pub mod Entering
+pub mod Keeping
+pub mod Viewing
+pub mod Testing
+pub mod Passing
+pub mod Chaining
