@@ -1,5 +1,6 @@
 -- The choice of an alternative for a candidate.
-use Rattle.std.proofs.Common.{◌≡◌, refl, sym, ap, subst, ◌∙◌, inl, inr, true, Option, Some, None, Result, Ok, Err}
+use Rattle.std.proofs.Common.{◌≡◌, ◌<◌, List, length, arith, refl, sym, ap, subst, ◌∙◌, inl, inr, true, Option, Some, None, Result, Ok, Err}
+use Rattle.std.specs.Prelude.{IfOk, IfSome}
 use Rattle.pc_rows.specs.declared.rows.NoMemory.{NoMemory}
 use Rattle.pc_rows.specs.Linear.{State, MeetsAll}
 use Rattle.pc_flow.specs.Annotation.{Annotation, rows_at}
@@ -11,8 +12,9 @@ use Rattle.pc_certify.specs.Candidates.{Candidate}
 use Rattle.pc_certify.specs.Causes.{Fails}
 use Rattle.pc_certify.specs.Claims.{IsProved}
 use Rattle.pc_certify.specs.Entries.{IsOfEntry, HasRows, ReducesTo, PossibleIs}
-use Rattle.pc_certify.specs.Inferring.{IsChosen, ChosenIs, ChoiceIs}
+use Rattle.pc_certify.specs.Inferring.{IsChosen, ChosenIs, FoundIs, ChosenOf, ChoiceIs, TakesFound, TakesNext}
 use Rattle.pc_certify.specs.Proving.{AnnotatedIs}
+use Rattle.pc_certify.specs.Selecting.{HasEntry}
 use Rattle.pc_certify.proofs.Claimed.{annotation_proved}
 
 -- an annotation with proofs
@@ -44,13 +46,34 @@ module _ (g : Flow) (a : Annotation) (b d : Annotated) (is : b.rows ≡ a) (redu
   chosen_is (Ok None) h = inr ((rows_at d.rows 0, of_entry, h), λ s m. contradictory_states (rows_at d.rows 0) (Ok true) h refl s (same_states s m))
   chosen_is (Err e) h = tt
 
--- the choice for a candidate that is computed
-module _ (g : Flow) (k : Candidate) (Promised : Type 0) where
-  pub choice_is : (a : Annotation) → a ≡ k.rows → (Promised → Fails g k.rows → ⊥) → (found : Result (Option Annotated) NoMemory) → ChosenIs g a found → ChoiceIs g k Promised found
-  choice_is a is holds found h = by found (subst (λ (z : Annotation). ChosenIs g z found) is h)
-    where
-      by : (found : Result (Option Annotated) NoMemory) → ChosenIs g k.rows found → ChoiceIs g k Promised found
-      by (Ok (Some b)) h = h
-      by (Ok None) (inl fails) = record { cause = inr (inl fails); states = λ p. absurd (holds p fails) }
-      by (Ok None) (inr none) = record { cause = inr (inr none.0); states = λ p. none.1 }
-      by (Err e) h = tt
+-- the choice for a candidate, and what is kept after it
+module _ (g : Flow) (k : Candidate) (Tame Promised : Type 0) (tame : Promised → Tame) (holds : Promised → Fails g k.rows → ⊥) where
+  of_rows : (choice : Result (Option Annotated) NoMemory) → ChosenIs g k.rows choice → ChoiceIs g k Promised choice
+  of_rows (Ok (Some b)) h = h
+  of_rows (Ok None) (inl fails) = record { cause = inr (inl fails); states = λ p. absurd (holds p fails) }
+  of_rows (Ok None) (inr none) = record { cause = inr (inr none.0); states = λ p. none.1 }
+  of_rows (Err e) h = tt
+
+  pub choice_is : (found : Option Annotation) → FoundIs g k Tame (Ok found) → (choice : Result (Option Annotated) NoMemory) → ChosenOf g found choice → ChoiceIs g k Promised choice
+  choice_is (Some a) is choice h = of_rows choice (subst (λ (z : Annotation). ChosenIs g z choice) is.1 h)
+  choice_is None is (Ok (Some b)) h = absurd (cc)
+  choice_is None is (Ok None) h = record { cause = inl is.0; states = λ p. absurd (is.1 (tame p)) }
+  choice_is None is (Err e) h = tt
+
+  pub takes_is : (found : Option Annotation) → FoundIs g k Tame (Ok found) → (kept : List Annotated) (new : Result (List Annotated) NoMemory) →
+      IfOk new (TakesFound g found kept) → IfOk new (TakesNext g k Promised kept)
+  takes_is found is kept (Ok new) (choice, h, selects) = (choice, choice_is found is (Ok choice) h, selects)
+  takes_is found is kept (Err e) h = tt
+
+-- a candidate that is found is complete
+pub found_complete : (g : Flow) (k : Candidate) (Tame : Type 0) (found : Option Annotation) → FoundIs g k Tame (Ok found) → IfSome found (IsComplete g)
+found_complete g k Tame (Some a) h = h.0
+found_complete g k Tame None h = tt
+
+-- the alternative of an annotation that is there has rows for the entry
+pub chosen_entry : (g : Flow) (found : Option Annotation) (o : Option Annotated) (b : Annotated) → o ≡ Some b → 1 < length g.points → ChosenOf g found (Ok o) → HasEntry b
+chosen_entry g found o b is some h = by found (subst (λ (z : Option Annotated). ChosenOf g found (Ok z)) is h)
+  where
+    by : (found : Option Annotation) → ChosenOf g found (Ok (Some b)) → HasEntry b
+    by (Some a) h = let long = h.proved.long in omega arith
+    by None h = absurd (cc)

@@ -10,6 +10,7 @@ pub mod Choosing
 pub mod Beside
 pub mod Selecting
 pub mod Keeping
+pub mod Filling
 pub mod Certificates
 pub mod Renewing
 pub mod Reductions

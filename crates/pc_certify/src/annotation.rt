@@ -36,21 +36,22 @@ pub fn prove(
     ensures few { IfOk result (λ o. IfSome o (λ b. AllByRecursion (λ proofs. length proofs ≤ PREMISES) b.proofs)) }
     ensures cause { IfOk result (λ o. IfNone o (Fails g.now annotation.now)) }
 {
-    annotated(alloc, g, annotation)
+    annotated(alloc, g, copy(alloc, annotation)?)
 }
 
-/// The annotation with the proofs of each edge.
+/// The annotation with the proofs of each edge. Its rows are moved: copies of them would be the
+/// greater part of what an inference needs.
 pub fn annotated(
     alloc: Global,
     g: &Graph,
-    annotation: &Annotation,
+    annotation: Annotation,
 ) -> Result<Option<Annotated>, NoMemory>
-    requires { IsComplete g.now annotation.now }
-    ensures { AnnotatedIs g.now annotation.now result }
+    requires { IsComplete g.now annotation }
+    ensures { AnnotatedIs g.now annotation result }
 {
-    match proofs_by_edge(alloc, g, annotation)? {
+    match proofs_by_edge(alloc, g, &annotation)? {
         Some(proofs) => Ok(Some(Annotated {
-            rows: copy(alloc, annotation)?,
+            rows: annotation,
             proofs,
         })),
         None => Ok(None),

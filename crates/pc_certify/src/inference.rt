@@ -14,7 +14,7 @@ ghost use Rattle.pc_certify.specs.Inferring.{IsExact, Covers, IsAlternative, Has
 
 use crate::choice::choice_of_need;
 use crate::lists::push;
-use crate::modes::of_modes;
+use crate::loops::of_loops;
 use pc_certificate::{Annotated, Certificate};
 use pc_flow::Graph;
 use pc_rows::NoMemory;
@@ -25,10 +25,13 @@ use std::alloc::Global;
 pub const CANDIDATES: usize = 9;
 
 /// The certificate of a graph. The candidates of the modes are tried in the order `Hint`, `Plain`,
-/// `Tilt1`, `Tilt2`, `Escape`; a graph without loops has one candidate, the rows that each point
-/// needs. A candidate becomes an alternative as follows.
+/// `Tilt1`, `Tilt2`, `Escape`; then those of `Plain`, `Tilt1` and `Tilt2` with the rows that
+/// polyhedra know at the heads, and then the rows that needs ask there, each completed. A graph
+/// without loops has one candidate, the rows that each point needs. A candidate becomes an
+/// alternative as follows.
 ///
-/// 1. It is left out where its rows leave the range or are too many, or where they are not proved.
+/// 1. It is left out where its rows leave the range or are too many, or where they are not proved;
+///    or where a row that comes from polyhedra or needs has a variable that the graph lacks.
 /// 2. Its rows at the entry are reduced: without those that the others show; they stay as they are
 ///    where those that are left are not found to show what is owed there.
 /// 3. It is left out where these rows are found to contradict each other.
@@ -69,7 +72,7 @@ fn alternatives(alloc: Global, g: &Graph) -> Result<Items<Annotated>, NoMemory>
     ensures { IfOk result (AreAlternatives g.now) }
 {
     if has_heads(g) {
-        of_modes(alloc, g)
+        of_loops(alloc, g)
     } else {
         of_need(alloc, g)
     }

@@ -4,12 +4,14 @@
 mod annotation;
 mod choice;
 mod cover;
+mod domains;
 mod edge;
 mod entry;
+mod heads;
 mod inference;
 mod laws;
 mod lists;
-mod modes;
+mod loops;
 mod origin;
 mod row;
 mod selection;

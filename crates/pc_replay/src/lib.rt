@@ -16,3 +16,4 @@ mod shape;
 pub use laws::{accepted_is_lean, accepted_is_safe, rule_is_meant};
 pub use replay::accept;
 pub use ruling::Ruling;
+pub use shape::are_over;

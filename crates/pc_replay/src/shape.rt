@@ -34,7 +34,7 @@ pub fn first_beyond(n: u32, rows: &Rows) -> Option<u32>
 }
 
 /// Whether no row has a variable from number `n` on.
-fn are_over(n: u32, rows: &Rows) -> bool
+pub fn are_over(n: u32, rows: &Rows) -> bool
     ensures { result ≡ are_over n rows.now }
 {
     first_beyond(n, rows).is_none()

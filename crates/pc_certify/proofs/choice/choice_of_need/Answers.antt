@@ -1,19 +1,27 @@
-use Rattle.std.proofs.Common.{List, sym, ap, subst, ◌∙◌}
+use Rattle.std.proofs.Common.{◌≡◌, List, sym, subst, Option, Ok}
 use Rattle.pc_rows.specs.Linear.{Linear}
-use Rattle.pc_lower.specs.Annotation.{AreOver}
-use Rattle.pc_lower.specs.Need.{need}
+use Rattle.pc_flow.specs.Annotation.{Annotation}
+use Rattle.pc_flow.specs.Shape.{NoHeads}
 use Rattle.pc_lower.specs.Tame.{IsTame}
-use Rattle.pc_lower.proofs.Annotations.{none_over}
-use Rattle.pc_certify.specs.Candidates.{of_need}
-use Rattle.pc_certify.proofs.Choosing.{choice_is}
+use Rattle.pc_lower.proofs.Annotations.{none_long, none_over}
+use Rattle.pc_certify.specs.Candidates.{of_need, of_heads, AreHeads}
+use Rattle.pc_certify.specs.Inferring.{FoundIs}
+use Rattle.pc_certify.proofs.Choosing.{choice_is, found_complete}
 use Rattle.pc_certify.proofs.Promises.{tame_need_is_proved}
 use Rattle.pc_certify.proofs.choice.choice_of_need.Goals as goal
 
-pub complete-requires-clause-over : goal.complete-requires-clause-over
-complete-requires-clause-over c =
-    subst (λ (z : List (List Linear)). AreOver c.args.g.now.variables z) (sym c.in_ok-heads.ensures) (none_over c.args.g.now.variables c.args.g.now.points)
-
-pub returns-in-Ok : goal.returns-in-Ok
-returns-in-Ok c =
+pub of_heads-requires : goal.of_heads-requires
+of_heads-requires c =
     let g = c.args.g.now in
-    choice_is g (of_need g) (IsTame g) c.in-Ok.a (c.in-Ok.ensures.need.1 ∙ ap (need g) c.in_ok-heads.ensures) (tame_need_is_proved g c.requires) c.chosen.result c.chosen.ensures
+    subst (AreHeads g) (sym c.in_ok-heads.ensures) (record { long = none_long g.points; over = none_over g.variables g.points })
+
+pub choice_of-requires : goal.choice_of-requires
+choice_of-requires c =
+    let g = c.args.g.now in
+    found_complete g (of_heads g c.in_ok-heads.heads) (NoHeads g.points × IsTame g) c.in_ok-found.found c.in_ok-found.ensures
+
+pub returns : goal.returns
+returns c =
+    let g = c.args.g.now in
+    let found = subst (λ (z : Annotation). FoundIs g (of_heads g z) (NoHeads g.points × IsTame g) (Ok c.in_ok-found.found)) c.in_ok-heads.ensures c.in_ok-found.ensures in
+    choice_is g (of_need g) (NoHeads g.points × IsTame g) (IsTame g) (λ tame. (c.requires, tame)) (tame_need_is_proved g c.requires) c.in_ok-found.found found c.choice_of.result c.choice_of.ensures

@@ -1,0 +1,5 @@
+use Rattle.pc_certify.proofs.Filling.{HeadsBelow}
+use Rattle.pc_certify.proofs.heads.with_rows.Given as goal
+
+abbrev pub invariant-loop-p : goal.invariant-loop-p
+invariant-loop-p l = HeadsBelow l.g l.p l.heads
