@@ -1,9 +1,7 @@
 //! Blocks: a title, what is called, the texts that it is about, and what it prints.
 
 use crate::call::{Call, Outcome};
-use crate::fault::Fault;
-use crate::files::bytes_of;
-use crate::text::{Text, parted};
+use pc_alone::{Fault, Text, bytes_of, parted};
 use pc_ports::Store;
 use std::alloc::Global;
 use std::mem;

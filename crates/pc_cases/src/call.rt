@@ -1,8 +1,6 @@
 //! Calls over memory.
 
-use crate::alone::{Texts, answer};
-use crate::fault::Fault;
-use crate::text::Text;
+use pc_alone::{Fault, Text, Texts, answer};
 use pc_app::serve;
 use pc_ports::{Calls, Files, MemorySink, MemoryStore, put_all};
 use std::alloc::Global;

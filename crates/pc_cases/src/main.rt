@@ -3,14 +3,11 @@
 //! The head of `data/index` tells how a case is written.
 #![tactic(auto)]
 
-mod alone;
 mod block;
 mod call;
-mod fault;
 mod files;
 mod reader;
 mod report;
-mod text;
 
 use crate::files::text_of;
 use crate::reader::{cases_of, is_aside};

@@ -1,7 +1,7 @@
 //! Files of cases: blocks that end with empty lines.
 
 use crate::block::{Block, Case};
-use crate::fault::Fault;
+use pc_alone::Fault;
 use pc_ports::Store;
 use std::alloc::Global;
 

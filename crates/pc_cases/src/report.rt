@@ -2,7 +2,7 @@
 
 use crate::block::Case;
 use crate::call::Outcome;
-use crate::fault::Fault;
+use pc_alone::Fault;
 use std::process::ExitCode;
 use std::{io, str};
 

@@ -1,11 +1,11 @@
 //! Which rows show which, and lists without needless rows.
 
-use crate::alone::elim::settled;
-use crate::alone::numbers::push_rows;
-use crate::alone::rows::said;
-use crate::alone::texts::Texts;
+use crate::elim::settled;
 use crate::fault::Fault;
+use crate::numbers::push_rows;
+use crate::rows::said;
 use crate::text::Text;
+use crate::texts::Texts;
 use pc_rows::PREMISES;
 use std::alloc::Global;
 

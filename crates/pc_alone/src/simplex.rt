@@ -1,10 +1,10 @@
 //! The search.
 
-use crate::alone::elim::{push_proof, question};
-use crate::alone::rows::push_point;
-use crate::alone::texts::Texts;
+use crate::elim::{push_proof, question};
 use crate::fault::Fault;
+use crate::points::push_point;
 use crate::text::Text;
+use crate::texts::Texts;
 use pc_simplex::Guess;
 use std::alloc::Global;
 

@@ -1,12 +1,12 @@
 //! Elimination.
 
-use crate::alone::numbers::{push_number, system_of};
-use crate::alone::rows::push_point;
-use crate::alone::texts::Texts;
 use crate::fault::Fault;
+use crate::numbers::{push_number, system_of};
+use crate::points::push_point;
 use crate::text::Text;
+use crate::texts::Texts;
 use pc_elim::Answer;
-use pc_rows::{Proof, System};
+use pc_rows::{Part, Proof, System};
 use std::alloc::Global;
 
 /// The question whether the text `premises` shows the text `goal`.
@@ -42,8 +42,12 @@ pub fn push_proof(alloc: Global, text: &mut Text, proof: &Proof) -> Result<(), F
     push_number(alloc, text, true, proof.goal().get())?;
     let parts = proof.parts();
     for i in 0..parts.len() {
-        let part = parts.at(i);
-        text.push(format!(in alloc; " {} {}", part.index, part.multiplier.get())?.as_bytes())?;
+        push_part(alloc, text, &parts.at(i))?;
     }
     text.push(b"\n")
+}
+
+/// Adds a premise's number and its multiplier.
+fn push_part(alloc: Global, text: &mut Text, part: &Part) -> Result<(), Fault> {
+    text.push(format!(in alloc; " {} {}", part.index, part.multiplier.get())?.as_bytes())
 }

@@ -8,7 +8,7 @@ use std::num::ParseIntError;
 /// Why a file of cases is not understood.
 #[derive(Clone, Copy)]
 pub enum Fault {
-    /// A file of data is not there, is too long, or is no text.
+    /// A file is not there, is too long, or is no text.
     Unreadable,
     /// A line stands outside of blocks and is no title.
     Outside,
@@ -34,7 +34,7 @@ impl Fault {
     /// The reason in words.
     pub fn told(self) -> &'static str {
         match self {
-            Fault::Unreadable => "a file of data that cannot be read",
+            Fault::Unreadable => "a file that cannot be read",
             Fault::Outside => "a line outside of blocks",
             Fault::Unended => "the last line has no line feed",
             Fault::Unprinted => "a block has one `-- prints`, which comes last",

@@ -1,11 +1,12 @@
 //! Candidates, and the lower widening.
 
-use crate::alone::graph::graph_of;
-use crate::alone::numbers::push_rows;
-use crate::alone::texts::Texts;
 use crate::fault::Fault;
+use crate::graph::graph_of;
+use crate::numbers::push_rows;
 use crate::text::Text;
+use crate::texts::Texts;
 use pc_lower::{CandidateFault, Mode};
+use pc_rows::Rows;
 use std::alloc::Global;
 
 /// The rows that the candidate of the text `mode` gives to each point of the program that the text
@@ -15,17 +16,21 @@ pub fn candidate(alloc: Global, texts: &mut Texts) -> Result<Text, Fault> {
     let mode = mode_of(texts.line(alloc, "mode")?.as_str())?;
     let mut text = Text::new(alloc);
     match pc_lower::candidate(alloc, &graph, mode) {
-        Ok(annotation) => {
-            for rows in annotation.as_slice() {
-                text.push_line("point")?;
-                push_rows(alloc, &mut text, rows)?;
-            }
-        }
+        Ok(annotation) => push_points(alloc, &mut text, annotation.as_slice())?,
         Err(CandidateFault::Past) => text.push_line("past")?,
         Err(CandidateFault::Full) => text.push_line("full")?,
         Err(CandidateFault::NoMemory) => return Err(Fault::Memory),
     }
     Ok(text)
+}
+
+/// Adds the rows of each point.
+fn push_points(alloc: Global, text: &mut Text, annotation: &[Rows]) -> Result<(), Fault> {
+    for rows in annotation {
+        text.push_line("point")?;
+        push_rows(alloc, text, rows)?;
+    }
+    Ok(())
 }
 
 /// The mode of this name.

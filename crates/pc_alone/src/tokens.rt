@@ -1,8 +1,8 @@
 //! Tokens.
 
-use crate::alone::texts::Texts;
 use crate::fault::Fault;
 use crate::text::Text;
+use crate::texts::Texts;
 use pc_text::{Kind, LexFault};
 use std::alloc::Global;
 

@@ -1,16 +1,15 @@
 //! The texts that a call by itself is about.
 
 ghost use Rattle.std.specs.Prelude.{◌<◌, ◌-◌, ◌^◌, length, IfOk};
+ghost use Rattle.pc_rows.specs.declared.row.TheConstants.{VARIABLES};
 
-use crate::alone::numbers::{number_of, row_of, rows_of};
 use crate::fault::Fault;
+use crate::files::bytes_of;
+use crate::numbers::{number_of, row_of, rows_of, variable_of};
 use crate::text::Text;
-use pc_ports::{MemoryStore, Store};
+use pc_ports::MemoryStore;
 use pc_rows::{Number, Row, Rows};
 use std::alloc::Global;
-
-/// The most bytes of such a text.
-const TEXT_BYTES: usize = 1_048_576;
 
 /// The texts, under their names.
 #[derive(Drop)]
@@ -28,10 +27,7 @@ impl Texts {
     pub fn bytes(&mut self, alloc: Global, name: &str) -> Result<Vec<u8>, Fault>
         ensures { IfOk result (λ bytes. length bytes.items < 2 ^ 32 - 1) }
     {
-        match self.store.fetch(alloc, name, TEXT_BYTES) {
-            Ok(bytes) if bytes.len() <= TEXT_BYTES => Ok(bytes),
-            _ => Err(Fault::Textless),
-        }
+        bytes_of(alloc, &mut self.store, name)
     }
 
     /// The same text again.
@@ -48,6 +44,14 @@ impl Texts {
             (Some(b'\n'), Ok(line)) => Ok(line),
             _ => Err(Fault::Textless),
         }
+    }
+
+    /// The variable whose number is on the one line of the text.
+    pub fn variable(&mut self, alloc: Global, name: &str) -> Result<u32, Fault>
+        ensures { IfOk result (λ v. v < VARIABLES) }
+    {
+        let line = self.line(alloc, name)?;
+        variable_of(line.as_str())
     }
 
     /// The number on the one line of the text.

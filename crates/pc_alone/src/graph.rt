@@ -2,13 +2,13 @@
 
 ghost use Rattle.std.specs.Prelude.{◌<◌, length};
 
-use crate::alone::numbers::{push_row, push_rows};
-use crate::alone::texts::Texts;
 use crate::fault::Fault;
+use crate::numbers::{push_row, push_rows};
 use crate::text::Text;
+use crate::texts::Texts;
 use pc_flow::{Graph, What};
 use pc_language::Bound;
-use pc_rows::Row;
+use pc_rows::{Row, Rows};
 use std::alloc::Global;
 
 /// The points and edges of the program that the text `source` spells.
@@ -50,21 +50,24 @@ fn push_edge(alloc: Global, text: &mut Text, graph: &Graph, i: u32) -> Result<()
 {
     let edge = graph.edge(i);
     text.push(format!(in alloc; "edge {i} {} {}", edge.from, edge.to)?.as_bytes())?;
-    if graph.is_body(i) {
-        text.push(b" body")?;
-    }
-    match &edge.what {
-        What::Enter { params } => { text.push_line(format!(in alloc; " enter {params}")?.as_str()) }
+    text.push(if graph.is_body(i) { b" body" } else { b"" })?;
+    push_what(alloc, text, &edge.what)
+}
+
+/// Adds what an edge does, and its rows.
+fn push_what(alloc: Global, text: &mut Text, what: &What) -> Result<(), Fault> {
+    match what {
+        What::Enter { params } => text.push_line(format!(in alloc; " enter {params}")?.as_str()),
         What::Set { var, form, lo, hi } => push_set(alloc, text, *var, form, (lo, hi)),
-        What::Test(rows) => {
-            text.push_line(" test")?;
-            push_rows(alloc, text, rows)
-        }
-        What::Check(rows) => {
-            text.push_line(" check")?;
-            push_rows(alloc, text, rows)
-        }
+        What::Test(rows) => push_under(alloc, text, " test", rows),
+        What::Check(rows) => push_under(alloc, text, " check", rows),
     }
+}
+
+/// Adds the end of a line and, under it, rows.
+fn push_under(alloc: Global, text: &mut Text, end: &str, rows: &Rows) -> Result<(), Fault> {
+    text.push_line(end)?;
+    push_rows(alloc, text, rows)
 }
 
 /// Adds an assignment: its variable, the ends of its choice, and its form.
