@@ -29,6 +29,6 @@ pub record IsTrial (loops : ℕ) (text : Bytes) : Type 0 where
   pub printed : text ≡ summary_text summary ++ condition_text program.names.names condition
 
 pub record TrialAnswers (loops status : ℕ) (text : Bytes) : Type 0 where
-  pub loops : IsLoops loops
+  pub fits : IsLoops loops
   pub status_is : status ≡ DONE
   pub trial : IsTrial loops text

@@ -104,7 +104,7 @@ fn answer_to_command<S: Store>(
     command: Command<'_>,
     store: &mut S,
 ) -> Result<Answer, Stop>
-    requires { AllByRecursion IsLoops (loops_in (inputs_of (ordered command.entry))) }
+    requires { AllByRecursion IsLoops (loops_in (inputs_of (ordered command))) }
     ensures answered { OrderIs (S.holding store.old) (S.faults store.old) (S.faults store.new) (ordered command.entry) result }
     ensures kept { (name : List ℕ) → S.holding store.new name ≡ S.holding store.old name }
 {
