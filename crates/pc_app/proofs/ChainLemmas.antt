@@ -63,9 +63,9 @@ line_of (x ∷ xs) p n ok e =
     let rest = line_of xs n (n + 1) both.1 refl in
     let more : Follows (p + 1) (rules xs n (n + 1)).edges = subst (λ (k : ℕ). Follows k (rules xs n (n + 1)).edges) e rest.follows in
     let here : IsLine p (length (tests_of f.what) + rows_count xs) (before_rules (one f.place f.what) p n xs) =
-        record { follows = (refl, e, f.test, more); rows = ap (λ (k : ℕ). length (tests_of f.what) + k) rest.rows } in
+    record { follows = (refl, e, f.test, more); rows = ap (λ (k : ℕ). length (tests_of f.what) + k) rest.rows } in
     let counted : IsLine p (rows_of x + rows_count xs) (before_rules (one f.place f.what) p n xs) =
-        subst (λ (k : ℕ). IsLine p (k + rows_count xs) (before_rules (one f.place f.what) p n xs)) f.rows here in
+    subst (λ (k : ℕ). IsLine p (k + rows_count xs) (before_rules (one f.place f.what) p n xs)) f.rows here in
     subst (λ (l : Rule). IsLine p (rows_of x + rows_count xs) (before_rules l p n xs)) (sym f.is) counted
 
 pub checks_are_chains : (p : Program) → AreChecks p → IsChain (graph p)

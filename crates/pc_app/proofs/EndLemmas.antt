@@ -89,7 +89,7 @@ module _ (words : List Bytes) (held : Bytes → Holding) (old new : Option Bytes
       promised _ _ name a.0 a.1 (λ bytes e. quick_is_enough (held name) bytes status a.0 old new e a.2 domain done a.1)
 
   pub trial : Ended → (loops : ℕ) → IsTrial words loops → status ≡ DONE → PrintedTrial loops old new
-  trial ends loops trial done = let a = order_of ends (omega arith, omega arith, omega arith) (Trial loops) trial in trial_is_told loops status a.0 old new a.1 a.2
+  trial ends loops ordered done = let a = order_of ends (omega arith, omega arith, omega arith) (Trial loops) ordered in trial_is_told loops status a.0 old new a.1 a.2
 
   pub usage : Ended → IsAnswered status → (status ≡ USAGE) ↔ (AreCommand words → ⊥)
   usage ends is = let a = answered ends is in answers_usage words held status a.text a.answers

@@ -1,5 +1,5 @@
 -- An order is answered as the files are that it names.
-use Rattle.std.proofs.Common.{ℕ, ◌≤◌, inl, inr, List, Result, Ok, Err, ◌⊎◌}
+use Rattle.std.proofs.Common.{ℕ, ◌≤◌, inl, inr, subst, List, Result, Ok, Err, ◌⊎◌}
 use Rattle.pc_ports.specs.Outside.{Holding}
 use Rattle.pc_ports.proofs.Appending.{rose_from}
 use Rattle.pc_text.specs.Bytes.{Bytes}
@@ -14,8 +14,8 @@ use Rattle.pc_app.specs.Answers.{Answers}
 use Rattle.pc_app.specs.Answers.Answers.{Known}
 use Rattle.pc_app.specs.Reading.{Stops, Answered, OrderIs, WordsAre}
 use Rattle.pc_app.specs.Silences.{IsLost, IsLostBehind, LacksFile}
-use Rattle.pc_words.specs.Words.{Order}
-use Rattle.pc_words.specs.Taken.{Orders}
+use Rattle.pc_words.specs.Words.{Order, IsOrder, IsPlain}
+use Rattle.pc_words.specs.Taken.{Orders, IsTakenAs}
 
 -- why a call goes no further, for what is made of it
 stops_widen : (R S : ℕ → Bytes → Type 0) (L M : Type 0) → ((status : ℕ) (text : Bytes) → R status text → S status text) → (L → M) → (e : Stop) → Stops R L e → Stops S M e
@@ -57,3 +57,12 @@ pub words_go_on : (words : List Bytes) (held : Bytes → Holding) (before now : 
     (r : Result Answer Stop) → OrderIs held before now order r → WordsAre words held before now r
 words_go_on words held before now order is r h =
     answered_widens _ (Answers words held) _ (LacksFile words held before now) (λ status text a. Known order is a) (λ l. record { order = order; named = is; lost = l }) r h
+
+-- words in no plain form are answered as the order that they are taken as
+pub taken_go_on : (words list : List Bytes) (held : Bytes → Holding) (before now : ℕ) → (IsPlain words → ⊥) → IsTakenAs words list → (r : Result Answer Stop) →
+    ((order : Order) → IsOrder list order → OrderIs held before now order r) → WordsAre words held before now r
+taken_go_on words list held before now none taken r h =
+    let order = taken.plain.0 in
+    let is = taken.plain.1 in
+    let spelled = subst (λ (ws : List Bytes). IsOrder ws order) taken.is_written is in
+    words_go_on words held before now order (inr (none, record { accepted = taken.accepted; spelled = spelled })) r (h order is)

@@ -83,11 +83,7 @@ fn answer_to_others<S: Store>(
 }
 
 /// The answer to a list of words that others are taken as.
-fn answer_to_taken<S: Store>(
-    alloc: Global,
-    list: &[String],
-    store: &mut S,
-) -> Result<Answer, Stop>
+fn answer_to_taken<S: Store>(alloc: Global, list: &[String], store: &mut S) -> Result<Answer, Stop>
     requires { IsPlain (map string_bytes list.now) }
     ensures answered { (order : Order) → IsOrder (map string_bytes list.now) order → OrderIs (S.holding store.old) (S.faults store.old) (S.faults store.new) order result }
     ensures kept { (name : List ℕ) → S.holding store.new name ≡ S.holding store.old name }

@@ -4,6 +4,7 @@ ghost use Rattle.std.specs.Prelude.{◌≡◌, ◌≤◌, length, IfOk};
 ghost use Rattle.pc_gen.specs.Made.{IsLoops, made};
 ghost use Rattle.pc_gen.specs.declared.made.TheConstants.{MADE_BYTES};
 ghost use Rattle.pc_syntax.specs.Spelling.{Spells};
+ghost use Rattle.pc_syntax.specs.declared.fault.SourceFault.TheVariants.{NoMemory as OfMemory};
 ghost use Rattle.pc_app.specs.Trials.{TrialAnswers, IsTrial, IsSize};
 
 use crate::answer::Answer;
@@ -40,9 +41,15 @@ fn program_of(alloc: Global, source: &[u8], loops: u32) -> Result<Program, NoMem
 {
     match read(alloc, source) {
         Ok(program) => Ok(program),
-        Err(SourceFault::NoMemory) => Err(NoMemory),
-        Err(_) => unreachable!(),
+        Err(fault) => Err(wanting(fault)),
     }
+}
+
+/// The want of memory that a fault is.
+fn wanting(_fault: SourceFault) -> NoMemory
+    requires { _fault ≡ OfMemory }
+{
+    NoMemory
 }
 
 /// What is told of a made source and its program.

@@ -17,3 +17,9 @@ returns-in-Show-clause-answered g c = rw c.in-Show.is c.answer_to_show.ensures.a
 
 pub returns-in-Facts-clause-answered : goal.returns-in-Facts-clause-answered
 returns-in-Facts-clause-answered g c = rw c.in-Facts.is c.answer_to_facts.ensures.answered
+
+pub returns-in-Quick-clause-answered : goal.returns-in-Quick-clause-answered
+returns-in-Quick-clause-answered g c = rw c.in-Quick.is c.answer_to_quick.ensures.answered
+
+pub returns-in_ok-answer_to_trial-in-Trial-clause-answered : goal.returns-in_ok-answer_to_trial-in-Trial-clause-answered
+returns-in_ok-answer_to_trial-in-Trial-clause-answered g c = rw c.in-Trial.is c.in_ok-answer_to_trial-in-Trial.ensures
