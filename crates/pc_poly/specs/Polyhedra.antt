@@ -1,11 +1,12 @@
 -- Polyhedra, and what edges, joins and widenings make of them.
-use Rattle.std.specs.Prelude.{◌≡◌, ◌↔◌, ℕ, ◌+◌, ◌≤◌, min, List, [], ◌∷◌, length, Option, Some, None, IsSomeAnd, pos}
+use Rattle.std.specs.Prelude.{◌≡◌, ◌↔◌, ℕ, ◌+◌, ◌≤◌, min, false, List, [], ◌∷◌, length, Option, Some, None, IsSomeAnd, Ok, pos}
 use Rattle.std.specs.List.{AllByRecursion as Each}
 use Rattle.std.proofs.Math.Dec.{lit≤}
 use Rattle.std.proofs.Math.Nat.{min-le_left}
 use Rattle.pc_rows.specs.declared.rows.TheConstants.{ROWS}
 use Rattle.pc_rows.specs.Linear.{Linear, State, MeetsAll, coefficient}
 use Rattle.pc_rows.specs.Substitution.{never_row}
+use Rattle.pc_entail.specs.Showing.{ContradictoryIs}
 use Rattle.pc_flow.specs.declared.what.What.{What}
 use Rattle.pc_flow.specs.declared.what.What.TheVariants.{Enter, Test, Set, Check}
 use Rattle.pc_domain.specs.declared.limits.TheConstants.{PARTS}
@@ -43,6 +44,11 @@ few_parts (Some p) = min-le_left PARTS (length p.rows)
 abbrev pub IsTested : Polyhedron → List Linear → Value → Type 0
 IsTested p own None = (s : State) → MeetsAll s (gathered p.rows own) → ⊥
 IsTested p own (Some q) = q.rows ≡ gathered p.rows own
+
+-- the rows that are left are not found to contradict each other: a rational point meets them, or the question is not modest
+abbrev pub IsCoherent : Value → Type 0
+IsCoherent None = Unit {0}
+IsCoherent (Some q) = ContradictoryIs q.rows (Ok false)
 
 -- ---- what is said of a test
 

@@ -1,16 +1,17 @@
 //! What an edge makes of a polyhedron.
 
-ghost use Rattle.std.specs.Prelude.{◌≡◌, ◌<◌, ◌≤◌, [], true, pos, Some, length, slice_set, IfOk};
+ghost use Rattle.std.specs.Prelude.{◌≡◌, ◌<◌, ◌≤◌, [], true, false, pos, Some, Ok, length, slice_set, IfOk};
 ghost use Rattle.pc_language.specs.Ends.{end_of};
 ghost use Rattle.pc_rows.specs.declared.row.TheConstants.{VARIABLES};
 ghost use Rattle.pc_rows.specs.Linear.{State, MeetsAll, zero_from};
 ghost use Rattle.pc_rows.specs.Substitution.{IsEnd};
+ghost use Rattle.pc_entail.specs.Showing.{ContradictoryIs};
 ghost use Rattle.pc_flow.specs.Arc.{BoundsFit};
 ghost use Rattle.pc_flow.specs.Carry.{HasVariable};
 ghost use Rattle.pc_flow.specs.Walk.{Pass};
 ghost use Rattle.pc_flow.specs.declared.what.What.TheVariants.{Set};
 ghost use Rattle.pc_poly.specs.Assigning.{zeroing};
-ghost use Rattle.pc_poly.specs.Polyhedra.{HasState, SaysTested, SaysEntered, SaysAfter};
+ghost use Rattle.pc_poly.specs.Polyhedra.{HasState, IsCoherent, SaysTested, SaysEntered, SaysAfter};
 
 use crate::adding::{copied, gather};
 use crate::assignment::{Assignment, assigned, bounded};
@@ -85,6 +86,7 @@ fn to_zero(alloc: Global, x: u32) -> Assignment
 fn tested(alloc: Global, p: &Polyhedron, own: &Rows) -> Result<Option<Polyhedron>, NoMemory>
     ensures states { IfOk result (λ v. (s : State) → MeetsAll s p.now.rows → MeetsAll s own.now → HasState v s) }
     ensures view { IfOk result (λ v. SaysTested (Some p.now) own.now v) }
+    ensures coherent { IfOk result IsCoherent }
 {
     let mut rows = copied(&p.rows)?;
     gather(&mut rows, own)?;
@@ -96,7 +98,8 @@ fn tested(alloc: Global, p: &Polyhedron, own: &Rows) -> Result<Option<Polyhedron
 
 /// Whether the rows are found to contradict each other.
 fn is_contradictory(alloc: Global, rows: &Rows) -> Result<bool, NoMemory>
-    ensures { IfOk result (λ yes. yes ≡ true → (s : State) → MeetsAll s rows.now → ⊥) }
+    ensures states { IfOk result (λ yes. yes ≡ true → (s : State) → MeetsAll s rows.now → ⊥) }
+    ensures evidence { IfOk result (λ yes. yes ≡ false → ContradictoryIs rows.now (Ok false)) }
 {
     match contradictory(alloc, rows) {
         Ok(yes) => Ok(yes),
