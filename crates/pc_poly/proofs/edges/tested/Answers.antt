@@ -1,4 +1,4 @@
-use Rattle.std.proofs.Common.{◌∙◌, sym, ap, subst, Some, None, false, Ok}
+use Rattle.std.proofs.Common.{◌∙◌, sym, ap, subst, List, Some, None, false, Ok}
 use Rattle.pc_rows.specs.Linear.{Linear}
 use Rattle.pc_entail.specs.Showing.{ContradictoryIs}
 use Rattle.pc_poly.proofs.Testing.{joined_is, none_tested, tested_states, tested_says}
