@@ -1,5 +1,5 @@
 -- Points are filled from the least number up.
-use Rattle.std.proofs.Common.{◌≡◌, ◌∙◌, ℕ, ◌+◌, ◌<◌, List, [], ◌∷◌, ◌++◌, length, sym, refl, ap, subst, Some, Option, slice_get, arith, inl, inr, true, false, map, set, length-set, length-append}
+use Rattle.std.proofs.Common.{◌≡◌, ◌∙◌, ℕ, ◌+◌, ◌<◌, List, [], ◌∷◌, ◌++◌, length, sym, refl, ap, subst, Some, Option, slice_get, arith, inl, inr, false, map, set, length-set, length-append}
 use Rattle.std.specs.Prelude.{◌⊎◌, ◌==◌, IsSomeAnd}
 use Rattle.std.specs.Option.{option_map}
 use Rattle.std.proofs.lemmas.Bool.{eqb-true}
@@ -12,12 +12,12 @@ use Rattle.pc_flow.specs.Lists.{In}
 use Rattle.pc_flow.specs.Shape.{NoHeads, IsGraph}
 use Rattle.pc_domain.specs.declared.forward.Forward.{Ghosts}
 use Rattle.pc_domain.specs.Fold.{FlowsTo, IsFold}
-use Rattle.pc_domain.proofs.Folding.{folds_alike, folds_seen}
+use Rattle.pc_domain.proofs.Folding.{folds_seen}
 use Rattle.pc_domain.proofs.Options.{some_more, some_is, is_some}
 use Rattle.pc_domain.proofs.Picking.{picked_in}
 use Rattle.pc_domain.proofs.Places.{got_before, got_last, got_set, got_set_other}
 use Rattle.pc_fixpoint.specs.Flowing.{heads, Everything, After, Join, Gathered, Filled}
-use Rattle.pc_fixpoint.specs.Rounds.{IsHeadAt}
+use Rattle.pc_fixpoint.proofs.Alike.{gathered_alike}
 use Rattle.pc_fixpoint.proofs.Pointing.{none_are_heads, rises}
 
 module _ {V : Type 0} (d : Ghosts V) (g : Flow) (graph : IsGraph g) where
@@ -28,14 +28,10 @@ module _ {V : Type 0} (d : Ghosts V) (g : Flow) (graph : IsGraph g) where
       let to : e.to ≡ p = eqb-true e.to p picked.1 in
       subst (λ (q : ℕ). e.from < q) to (rises g graph e picked.0 (subst (λ (q : ℕ). slice_get (heads g) q ≡ Some false) (sym to) other))
 
-  -- what is gathered at a point that is no head depends on the points below alone
-  gathered_alike : (xs ys : List V) (p : ℕ) (v : V) → slice_get (heads g) p ≡ Some false → ((q : ℕ) → q < p → slice_get xs q ≡ slice_get ys q) →
+  -- and so what is gathered there depends on the points below alone
+  below_alike : (xs ys : List V) (p : ℕ) (v : V) → slice_get (heads g) p ≡ Some false → ((q : ℕ) → q < p → slice_get xs q ≡ slice_get ys q) →
       Gathered d g xs p v → Gathered d g ys p v
-  gathered_alike xs ys p v other same h = (
-    h.0,
-    h.1,
-    folds_alike (After d) (Join d) (λ e. e.from) xs ys (entering p g.edges) h.0 v (λ e m. same e.from (from_below p other e m)) h.2,
-  )
+  below_alike xs ys p v other same h = gathered_alike d g xs ys p (λ e m. same e.from (from_below p other e m)) v h
 
   pub filled_entry : (v : V) → Everything d g.variables v → Filled d g 1 1 (v ∷ [])
   filled_entry v h = record { long = refl; entry = h; points = λ p low high. absurd (omega arith) }
@@ -55,14 +51,15 @@ module _ {V : Type 0} (d : Ghosts V) (g : Flow) (graph : IsGraph g) where
       by p lo (inr lt) other =
           subst (λ (o : Option V). IsSomeAnd o (Gathered d g (values ++ v ∷ []) p)) (before p lt)
           (some_more (slice_get values p) (Gathered d g values p) (Gathered d g (values ++ v ∷ []) p)
-          (λ x. gathered_alike values (values ++ v ∷ []) p x other (λ q qp. before q (omega arith))) (h.points p lo lt other))
+          (λ x. below_alike values (values ++ v ∷ []) p x other (λ q qp. before q (omega arith))) (h.points p lo lt other))
       by p lo (inl is) other =
           is_some (slice_get (values ++ v ∷ []) p) (Gathered d g (values ++ v ∷ []) p) v (ap (slice_get (values ++ v ∷ [])) (is ∙ sym h.long) ∙ got_last values v)
-          (gathered_alike values (values ++ v ∷ []) p v other (λ q qp. before q (omega arith)) (subst (λ (q : ℕ). Gathered d g values q v) (sym is) here))
+          (below_alike values (values ++ v ∷ []) p v other (λ q qp. before q (omega arith)) (subst (λ (q : ℕ). Gathered d g values q v) (sym is) here))
 
-  -- the next point is a head and stays
-  pub filled_head : (n k : ℕ) (values : List V) → IsHeadAt g k → Filled d g n k values → Filled d g n (k + 1) values
-  filled_head n k values head h = record {
+  -- the next point stays: it is a head, or is gathered as it stands
+  pub filled_kept : (n k : ℕ) (values : List V) → (slice_get (heads g) k ≡ Some false → IsSomeAnd (slice_get values k) (Gathered d g values k)) →
+      Filled d g n k values → Filled d g n (k + 1) values
+  filled_kept n k values here h = record {
     long = h.long;
     entry = h.entry;
     points = λ p lo hi other. by p lo (let either : (p ≡ k) ⊎ (p < k) = grind arith in either) other;
@@ -70,7 +67,8 @@ module _ {V : Type 0} (d : Ghosts V) (g : Flow) (graph : IsGraph g) where
     where
       by : (p : ℕ) → 0 < p → (p ≡ k) ⊎ (p < k) → slice_get (heads g) p ≡ Some false → IsSomeAnd (slice_get values p) (Gathered d g values p)
       by p lo (inr lt) other = h.points p lo lt other
-      by p lo (inl is) other = let head' : slice_get (heads g) p ≡ Some true = subst (IsHeadAt g) (sym is) head in absurd (cc)
+      by p lo (inl is) other =
+          subst (λ (q : ℕ). IsSomeAnd (slice_get values q) (Gathered d g values q)) (sym is) (here (subst (λ (q : ℕ). slice_get (heads g) q ≡ Some false) is other))
 
   -- the next point is no head and is gathered anew
   pub filled_set : (n k : ℕ) (values : List V) (v : V) → 0 < k → k < n → slice_get (heads g) k ≡ Some false → Filled d g n k values → Gathered d g values k v → Filled d g n (k + 1) (set values k v)
@@ -87,11 +85,11 @@ module _ {V : Type 0} (d : Ghosts V) (g : Flow) (graph : IsGraph g) where
       by p lo (inr lt) other =
           subst (λ (o : Option V). IsSomeAnd o (Gathered d g (set values k v) p)) (before p lt)
           (some_more (slice_get values p) (Gathered d g values p) (Gathered d g (set values k v) p)
-          (λ x. gathered_alike values (set values k v) p x other (λ q qp. before q (omega arith))) (h.points p lo lt other))
+          (λ x. below_alike values (set values k v) p x other (λ q qp. before q (omega arith))) (h.points p lo lt other))
       by p lo (inl is) other =
           is_some (slice_get (set values k v) p) (Gathered d g (set values k v) p) v
           (ap (slice_get (set values k v)) is ∙ got_set values k v (let l = h.long in omega arith))
-          (gathered_alike values (set values k v) p v other (λ q qp. before q (omega arith)) (subst (λ (q : ℕ). Gathered d g values q v) (sym is) here))
+          (below_alike values (set values k v) p v other (λ q qp. before q (omega arith)) (subst (λ (q : ℕ). Gathered d g values q v) (sym is) here))
 
   -- heads may change as they like: the entry is none
   pub filled_again : (n k : ℕ) (values new : List V) → length new ≡ length values → slice_get new 0 ≡ slice_get values 0 → Filled d g n k values → Filled d g n 1 new

@@ -1,6 +1,8 @@
 pub mod Pointing
 pub mod Landing
+pub mod Alike
 pub mod Filling
+pub mod Marking
 pub mod Turning
 pub mod Reaching
 pub mod Paying

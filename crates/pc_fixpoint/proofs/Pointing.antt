@@ -1,6 +1,8 @@
 -- Which points are heads, as a list.
-use Rattle.std.proofs.Common.{◌≡◌, ℕ, zero, suc, ◌<◌, List, [], ◌∷◌, length, ap, sym, Some, Bool, true, false, slice_get, map, arith}
-use Rattle.std.specs.Prelude.{IfSome}
+use Rattle.std.proofs.Common.{◌≡◌, ℕ, zero, suc, ◌+◌, ◌<◌, ◌≤◌, List, [], ◌∷◌, length, ap, sym, Some, Bool, true, false, slice_get, map, arith}
+use Rattle.std.specs.Prelude.{◌⊎◌, IfSome}
+use Rattle.std.proofs.lemmas.List.{length-map}
+use Rattle.std.proofs.lemmas.Option.{slice_get_within}
 use Rattle.pc_flow.specs.declared.point.PointInfo.{PointInfo}
 use Rattle.pc_flow.specs.Arc.{Arc}
 use Rattle.pc_flow.specs.Flow.{Flow}
@@ -8,6 +10,9 @@ use Rattle.pc_flow.specs.Lists.{In}
 use Rattle.pc_flow.specs.Shape.{NoHeads, IsGraph, IsHead}
 use Rattle.pc_domain.proofs.Heads.{rises_unless, has_entry}
 use Rattle.pc_fixpoint.specs.Flowing.{heads}
+
+pub here_or_above : (p q : ℕ) → p ≤ q → (q ≡ p) ⊎ (p + 1 ≤ q)
+here_or_above p q le = grind arith
 
 abbrev IsMarked : List PointInfo → ℕ → Bool → Type 0
 IsMarked points p b = slice_get (map (λ (x : PointInfo). x.head) points) p ≡ Some b
@@ -35,6 +40,12 @@ head_told g p b lt h = by g.points p lt h
     by [] p lt h = absurd (omega arith)
     by (x ∷ xs) zero lt h = ap Some (sym h)
     by (x ∷ xs) (suc p) lt h = by xs p (omega arith) h
+
+-- the list has a mark for each point
+pub marks_within : (g : Flow) (p : ℕ) (b : Bool) → slice_get (heads g) p ≡ Some b → p < length g.points
+marks_within g p b h =
+    let within : p < length (heads g) = slice_get_within (heads g) p b h in
+    omega (arith, length-map g.points (λ (x : PointInfo). x.head))
 
 pub none_are_heads : (g : Flow) → NoHeads g.points → (p : ℕ) → p < length g.points → slice_get (heads g) p ≡ Some false
 none_are_heads g none p lt = none_marked g.points p none lt

@@ -14,11 +14,11 @@ use Rattle.pc_domain.proofs.Folding.{folds_alike}
 use Rattle.pc_domain.proofs.Options.{some_more, is_some}
 use Rattle.pc_domain.proofs.Picking.{picked_in}
 use Rattle.pc_domain.proofs.Places.{got_set, got_set_other}
-use Rattle.pc_fixpoint.specs.Flowing.{heads}
-use Rattle.pc_fixpoint.specs.Rounds.{IsHeadAt}
+use Rattle.pc_fixpoint.specs.Flowing.{heads, IsHeadAt}
 use Rattle.pc_fixpoint.specs.Ebbing.{Before, Both, Asked}
 use Rattle.pc_fixpoint.specs.Sweeps.{IsEmptyAt, left, Leaves, IsKeptAt, Stepped, AreMarked, IsAskedAt, Swept}
-use Rattle.pc_fixpoint.proofs.Pointing.{none_are_heads, rises}
+use Rattle.pc_fixpoint.proofs.Alike.{has_alike}
+use Rattle.pc_fixpoint.proofs.Pointing.{here_or_above, none_are_heads, rises}
 
 left_set : (spent : List Bool) (p : ℕ) → slice_get spent p ≡ Some false → suc (left (set spent p true)) ≡ left spent
 left_set [] p h = absurd (cc)
@@ -27,13 +27,7 @@ left_set (false ∷ spent) zero h = refl
 left_set (true ∷ spent) (suc p) h = left_set spent p h
 left_set (false ∷ spent) (suc p) h = ap suc (left_set spent p h)
 
-here_or_above : (p q : ℕ) → p ≤ q → (q ≡ p) ⊎ (p + 1 ≤ q)
-here_or_above p q le = grind arith
-
 module _ {V : Type 0} (d : Ghosts V) (g : Flow) where
-  has_alike : (xs ys : List V) (p : ℕ) → slice_get xs p ≡ slice_get ys p → (s : State) → HasAt d.has xs p s → HasAt d.has ys p s
-  has_alike xs ys p same s m = subst (λ (o : Option V). IsSomeAnd o (λ v. d.has v s)) same m
-
   -- what is asked at a point stays where the targets of its edges stay
   asked_alike : (xs ys : List V) (p : ℕ) (v : V) → ((e : Arc) → In e g.edges → e.from ≡ p → slice_get xs e.to ≡ slice_get ys e.to) → Asked d g xs p v → Asked d g ys p v
   asked_alike xs ys p v same h = (
@@ -52,8 +46,8 @@ module _ {V : Type 0} (d : Ghosts V) (g : Flow) where
     where
       by : IsEmptyAt d xs p ⊎ ((v : V) × Asked d g xs p v × ((s : State) → HasAt d.has xs p s → d.has v s)) →
           IsEmptyAt d ys p ⊎ ((v : V) × Asked d g ys p v × ((s : State) → HasAt d.has ys p s → d.has v s))
-      by (inl empty) = inl (λ s m. empty s (has_alike ys xs p (sym here) s m))
-      by (inr v) = inr (v.0, asked_alike xs ys p v.0 same v.1, λ s m. v.2 s (has_alike ys xs p (sym here) s m))
+      by (inl empty) = inl (λ s m. empty s (has_alike d.has ys xs p (sym here) s m))
+      by (inr v) = inr (v.0, asked_alike xs ys p v.0 same v.1, λ s m. v.2 s (has_alike d.has ys xs p (sym here) s m))
 
 module _ {V : Type 0} (d : Ghosts V) (g : Flow) (graph : IsGraph g) where
   -- an edge from a point above, or from the point itself, does not lead to a point that is no head
@@ -64,7 +58,7 @@ module _ {V : Type 0} (d : Ghosts V) (g : Flow) (graph : IsGraph g) where
       (swept : Swept d g round (p + 1) before changed values spent) where
     -- the value at a point is set: what stands at another point stays
     empty_other : (v : V) (q : ℕ) → q ≢ p → IsEmptyAt d values q → IsEmptyAt d (set values p v) q
-    empty_other v q other empty s m = empty s (has_alike d g (set values p v) values q (got_set_other values p q v other) s m)
+    empty_other v q other empty s m = empty s (has_alike d.has (set values p v) values q (got_set_other values p q v other) s m)
 
     got_here : (v : V) → slice_get (set values p v) p ≡ Some v
     got_here v = got_set values p v (let l = swept.kept.long in omega arith)

@@ -1,21 +1,21 @@
--- Rounds at the heads, head by head.
-use Rattle.std.proofs.Common.{◌≡◌, ◌∙◌, ℕ, zero, suc, ◌+◌, ◌-◌, ◌*◌, ◌<◌, ◌≤◌, List, [], ◌∷◌, length, sym, refl, ap, subst, Some, Option, slice_get, arith, inl, inr, Bool, true, false, cond, set, length-set}
-use Rattle.std.specs.Prelude.{◌⊎◌, IsSomeAnd}
+-- Rounds at the heads, point by point.
+use Rattle.std.proofs.Common.{◌≡◌, ◌≢◌, ◌∙◌, ℕ, zero, suc, ◌+◌, ◌-◌, ◌*◌, ◌<◌, ◌≤◌, List, [], ◌∷◌, ◌++◌, length, sym, refl, ap, subst, Some, None, Option, Ok, Err, Result, slice_get, arith, inl, inr, Bool, true, false, cond, set, length-set, length-append}
+use Rattle.std.specs.Prelude.{◌⊎◌, IsSomeAnd, IfOk, MatchOption}
+use Rattle.std.specs.List.{AllByRecursion as Each}
 use Rattle.std.proofs.Math.Dec.{ltb}
 use Rattle.std.proofs.lemmas.Bool.Decides.{nat_tests}
-use Rattle.std.proofs.lemmas.List.{length-map}
-use Rattle.std.proofs.lemmas.Option.{slice_get_within}
 use Rattle.pc_rows.specs.Linear.{State}
 use Rattle.pc_flow.specs.Flow.{Flow}
-use Rattle.pc_flow.specs.Shape.{IsGraph}
+use Rattle.pc_flow.proofs.Lists.{each_got}
 use Rattle.pc_domain.specs.declared.forward.Forward.{Ghosts}
 use Rattle.pc_domain.specs.declared.limits.TheConstants.{PARTS}
-use Rattle.pc_domain.specs.Values.{HasAt}
-use Rattle.pc_domain.proofs.Options.{some_is}
-use Rattle.pc_domain.proofs.Places.{got_set_other}
-use Rattle.pc_fixpoint.specs.Flowing.{heads, Gathered}
-use Rattle.pc_fixpoint.specs.Rounds.{IsHeadAt, weight, AreJoined, Widened, TurnedAt, Changed, Turned}
-use Rattle.pc_fixpoint.proofs.Pointing.{entry_no_head, none_are_heads}
+use Rattle.pc_domain.proofs.Options.{some_is, is_some}
+use Rattle.pc_domain.proofs.Places.{got_before, got_last, got_set, got_set_other}
+use Rattle.pc_fixpoint.specs.Flowing.{heads, IsHeadAt, Gathered}
+use Rattle.pc_fixpoint.specs.Marks.{IsMarked, IsSettledAt}
+use Rattle.pc_fixpoint.specs.Rounds.{weight, WidensTo, AreWidened, Turned}
+use Rattle.pc_fixpoint.proofs.Marking.{marked_stays}
+use Rattle.pc_fixpoint.proofs.Pointing.{marks_within, none_are_heads, here_or_above}
 
 module _ {V : Type 0} (parts : V → ℕ) where
   weight_less : (marks : List Bool) (values : List V) (p : ℕ) (u v : V) → slice_get marks p ≡ Some true → slice_get values p ≡ Some u → parts v < parts u →
@@ -41,72 +41,101 @@ module _ {V : Type 0} (parts : V → ℕ) where
   weight_most few (true ∷ marks) (v ∷ values) = let a = few v in let r = weight_most few marks values in omega arith
   weight_most few (false ∷ marks) (v ∷ values) = let r = weight_most few marks values in omega arith
 
-abbrev pub SettledAt : {V : Type 0} → Ghosts V → List V → List V → ℕ → Type 0
-SettledAt d old joined p = IsSomeAnd (slice_get joined p) (λ j. (s : State) → d.has j s → HasAt d.has old p s)
+module _ {V : Type 0} (d : Ghosts V) (g : Flow) (round : ℕ) where
+  -- what a head finds that is asked
+  widens : (values : List V) (p : ℕ) (u newer : V) (o : Option V) → IsHeadAt g p → slice_get values p ≡ Some u → Gathered d g values p newer →
+      MatchOption o ((s : State) → d.has newer s → d.has u s) (λ v. (s : State) → d.has u s ⊎ d.has newer s → d.has v s) →
+      MatchOption o (Unit {0}) (λ v. d.TOP_ROUND ≤ round → d.parts v < d.parts u) → WidensTo d g round values p o
+  widens values p u newer (Some v) head at here states fewer = (head, λ late. is_some (slice_get values p) (λ x. d.parts v < d.parts x) u at (fewer late))
+  widens values p u newer None head at here states fewer = λ _. (newer, here, λ s m. is_some (slice_get values p) (λ x. d.has x s) u at (states s m))
 
--- the heads below k are done
-abbrev pub Turning : {V : Type 0} → Ghosts V → Flow → ℕ → List V → List V → ℕ → Bool → List V → Type 0
-Turning d g round old joined k true new = Changed d g round old new
-Turning d g round old joined k false new = (new ≡ old) × ((p : ℕ) → p < k → IsHeadAt g p → SettledAt d old joined p)
+  pub widens_to : {E : Type 0} (values : List V) (p : ℕ) (u newer : V) (r : Result (Option V) E) → IsHeadAt g p → slice_get values p ≡ Some u → Gathered d g values p newer →
+      IfOk r (λ o. MatchOption o ((s : State) → d.has newer s → d.has u s) (λ v. (s : State) → d.has u s ⊎ d.has newer s → d.has v s)) →
+      IfOk r (λ o. MatchOption o (Unit {0}) (λ v. d.TOP_ROUND ≤ round → d.parts v < d.parts u)) → IfOk r (WidensTo d g round values p)
+  widens_to values p u newer (Ok o) head at here states fewer = widens values p u newer o head at here states fewer
+  widens_to values p u newer (Err e) head at here states fewer = tt
 
-module _ {V : Type 0} (d : Ghosts V) (g : Flow) (graph : IsGraph g) (round : ℕ) where
-  changed_one : (old joined : List V) (p : ℕ) (new : List V) → length old ≡ length g.points → p < length g.points → TurnedAt d g round old joined p true new → Changed d g round old new
-  changed_one old joined p new long lt h = by (some_is (slice_get joined p) (λ j. Widened d round old p j true new) h.1)
-    where
-      by : (j : V) × (slice_get joined p ≡ Some j) × Widened d round old p j true new → Changed d g round old new
-      by j = record {
-        long = ap length j.2.1 ∙ length-set old p j.2.0;
-        entry = ap (λ (z : List V). slice_get z 0) j.2.1 ∙ got_set_other old p 0 j.2.0 (λ e. let entry = entry_no_head g graph in let head = h.0 in let same = ap (slice_get (heads g)) e in cc);
-        fewer = λ late. let u = some_is (slice_get old p) (λ u. d.parts j.2.0 < d.parts u) (j.2.2 late) in
-            subst (λ (z : List V). weight d.parts (heads g) z < weight d.parts (heads g) old) (sym j.2.1) (weight_less d.parts (heads g) old p u.0 j.2.0 h.0 u.1 u.2);
-        loops = λ none. let other = none_are_heads g none p lt in let head = h.0 in cc;
-      }
-
-  changed_more : (old mid new : List V) → Changed d g round old mid → Changed d g round mid new → Changed d g round old new
-  changed_more old mid new a b = record {
-    long = b.long ∙ a.long;
-    entry = b.entry ∙ a.entry;
-    fewer = λ late. let x = a.fewer late in let y = b.fewer late in omega arith;
-    loops = a.loops;
-  }
-
-  pub turning_none : (old joined : List V) → Turning d g round old joined 0 false old
-  turning_none old joined = (refl, λ p lt. absurd (omega arith))
-
-  pub turning_here : (old joined : List V) (k : ℕ) (changed : Bool) (mid new : List V) → length mid ≡ length g.points → k < length g.points →
-      Turning d g round old joined k changed mid → TurnedAt d g round mid joined k true new → Turning d g round old joined (k + 1) true new
-  turning_here old joined k true mid new long lt h t = changed_more old mid new h (changed_one mid joined k new long lt t)
-  turning_here old joined k false mid new long lt h t = subst (λ (z : List V). Changed d g round z new) h.0 (changed_one mid joined k new long lt t)
-
-  pub turning_not : (old joined : List V) (k : ℕ) (changed : Bool) (mid new : List V) →
-      Turning d g round old joined k changed mid → TurnedAt d g round mid joined k false new → Turning d g round old joined (k + 1) changed new
-  turning_not old joined k true mid new h t = subst (Changed d g round old) (sym t.0) h
-  turning_not old joined k false mid new h t = (t.0 ∙ h.0, λ p lt head. by p (let either : (p ≡ k) ⊎ (p < k) = grind arith in either) head)
-    where
-      by : (p : ℕ) → (p ≡ k) ⊎ (p < k) → IsHeadAt g p → SettledAt d old joined p
-      by p (inr lt) head = h.1 p lt head
-      by p (inl is) head =
-          let j = some_is (slice_get joined k) (λ j. Widened d round mid k j false new) (t.1 (subst (IsHeadAt g) is head)) in
-          subst (SettledAt d old joined) (sym is)
-          (subst (λ (o : Option V). IsSomeAnd o (λ j. (s : State) → d.has j s → HasAt d.has old k s)) (sym j.1)
-          (λ s m. subst (λ (z : List V). HasAt d.has z k s) h.0 (j.2.1 s m)))
-
-  pub turning_long : (old joined : List V) (k : ℕ) (changed : Bool) (new : List V) → Turning d g round old joined k changed new → length new ≡ length old
-  turning_long old joined k true new h = h.long
-  turning_long old joined k false new h = ap length h.0
-
-  pub turning_all : (old joined : List V) (k : ℕ) (changed : Bool) (new : List V) → length g.points ≤ k → AreJoined d g old (length g.points) joined →
-      Turning d g round old joined k changed new → Turned d g round old changed new
-  turning_all old joined k true new past j h = h
-  turning_all old joined k false new past j h = (
-    h.0,
-    λ p head.
-        let within : p < length (heads g) = slice_get_within (heads g) p true head in
-        let lt : p < length g.points = omega (arith, length-map g.points (λ x. x.head)) in
-        let v = some_is (slice_get joined p) (Gathered d g old p) (j.each p lt head) in
-        let s = some_is (slice_get joined p) (λ j. (s : State) → d.has j s → HasAt d.has old p s) (h.1 p (omega arith) head) in
-        (v.0, v.2, λ t m. s.2 t (subst (λ x. d.has x t) (let same : v.0 ≡ s.0 = let a = v.1 in let b = s.1 in cc in same) m)),
+  -- the last of the points that a round has found something for
+  pub widened_last : (old : List V) (wider rest : List (Option V)) (o : Option V) → wider ≡ rest ++ o ∷ [] → AreWidened d g round old (length wider) wider →
+      AreWidened d g round old (length rest) rest × WidensTo d g round old (length rest) o
+  widened_last old wider rest o is h = (
+    record {
+      long = refl;
+      each = λ p lt. subst (λ (z : Option (Option V)). IsSomeAnd z (WidensTo d g round old p)) (ap (λ (z : List (Option V)). slice_get z p) is ∙ got_before rest o p lt) (h.each p (let l = longer in omega arith));
+    },
+    (let last = some_is (slice_get wider (length rest)) (WidensTo d g round old (length rest)) (h.each (length rest) (let l = longer in omega arith)) in
+        subst (WidensTo d g round old (length rest)) (let at = last.1 in let end = ap (λ (z : List (Option V)). slice_get z (length rest)) is ∙ got_last rest o in let same : last.0 ≡ o = cc in same) last.2),
   )
+    where
+      longer : length wider ≡ length rest + 1
+      longer = ap length is ∙ length-append rest (o ∷ [])
+
+  pub turned_none : (old : List V) (moved : List Bool) → length moved ≡ length g.points → Each (λ m. m ≡ false) moved →
+      Turned d g round (length g.points) old false old moved
+  turned_none old moved long all = record {
+    long = refl;
+    marks = long;
+    changes = λ p m. absurd (free p m);
+    same = λ p free. refl;
+    settled = λ p le head free. absurd (let within = marks_within g p true head in omega arith);
+    none = λ c. (refl, free);
+    fewer = λ c. absurd (cc);
+    loops = λ c. absurd (cc);
+  }
+    where
+      free : (p : ℕ) → IsMarked moved p → ⊥
+      free p m = let is : true ≡ false = each_got (λ m. m ≡ false) moved p true all m in cc
+
+  -- a point at which nothing changes
+  pub turned_keeps : (k : ℕ) (old : List V) (changed : Bool) (new : List V) (moved : List Bool) →
+      Turned d g round (k + 1) old changed new moved → WidensTo d g round old k None → Turned d g round k old changed new moved
+  turned_keeps k old changed new moved t here = record {
+    long = t.long;
+    marks = t.marks;
+    changes = λ p m. (let le = (t.changes p m).0 in omega arith, (t.changes p m).1);
+    same = t.same;
+    settled = λ p le head free. by p head free (here_or_above k p le);
+    none = t.none;
+    fewer = t.fewer;
+    loops = t.loops;
+  }
+    where
+      by : (p : ℕ) → IsHeadAt g p → (IsMarked moved p → ⊥) → (p ≡ k) ⊎ (k + 1 ≤ p) → IsSettledAt d g old p
+      by p head free (inr above) = t.settled p above head free
+      by p head free (inl is) = subst (IsSettledAt d g old) (sym is) (here (subst (IsHeadAt g) is head))
+
+  at_most : (k : ℕ) (old : List V) (changed : Bool) (new : List V) (moved : List Bool) → Turned d g round k old changed new moved → d.TOP_ROUND ≤ round →
+      weight d.parts (heads g) new ≤ weight d.parts (heads g) old
+  at_most k old true new moved t late = let f = t.fewer refl late in omega arith
+  at_most k old false new moved t late = let same = ap (weight d.parts (heads g)) (t.none refl).0 in omega arith
+
+  -- a head that changes
+  pub turned_takes : (k : ℕ) (old : List V) (changed : Bool) (new : List V) (moved : List Bool) (v : V) → k < length g.points →
+      Turned d g round (k + 1) old changed new moved → WidensTo d g round old k (Some v) → Turned d g round k old true (set new k v) (set moved k true)
+  turned_takes k old changed new moved v lt t here = record {
+    long = length-set new k v ∙ t.long;
+    marks = length-set moved k true ∙ t.marks;
+    changes = λ p m. by p m (let either : (p ≡ k) ⊎ (p ≢ k) = grind arith in either);
+    same = λ p free. got_set_other new k p v (apart p free) ∙ t.same p (λ m. free (marked_stays moved k p m));
+    settled = λ p le head free. t.settled p (let other = apart p free in omega arith) head (λ m. free (marked_stays moved k p m));
+    none = λ c. absurd (cc);
+    fewer = λ c late.
+        let u = some_is (slice_get old k) (λ u. d.parts v < d.parts u) (here.1 late) in
+        let most = at_most (k + 1) old changed new moved t late in
+        let less = weight_less d.parts (heads g) new k u.0 v here.0 (t.same k fresh ∙ u.1) u.2 in
+        omega arith;
+    loops = λ c none. let other = none_are_heads g none k lt in let head = here.0 in cc;
+  }
+    where
+      fresh : IsMarked moved k → ⊥
+      fresh m = let above = (t.changes k m).0 in omega arith
+
+      apart : (p : ℕ) → (IsMarked (set moved k true) p → ⊥) → p ≢ k
+      apart p free is = free (subst (IsMarked (set moved k true)) (sym is) (got_set moved k true (let long = t.marks in omega arith)))
+
+      by : (p : ℕ) → IsMarked (set moved k true) p → (p ≡ k) ⊎ (p ≢ k) → (k ≤ p) × IsHeadAt g p
+      by p m (inl is) = (omega arith, subst (IsHeadAt g) (sym is) here.0)
+      by p m (inr other) = let above = t.changes p (sym (got_set_other moved k p true other) ∙ m) in (let le = above.0 in omega arith, above.1)
 
 -- what falls from round to round: below the top the rounds that are left to it, and from it on the parts
 abbrev pub left : ℕ → ℕ → ℕ → ℕ → ℕ

@@ -1,5 +1,5 @@
 -- What flows into a point: the join of what the edges bring that enter it.
-use Rattle.std.specs.Prelude.{◌≡◌, ℕ, ◌<◌, ◌⊎◌, List, Bool, false, Some, IsSomeAnd, slice_get, length, map}
+use Rattle.std.specs.Prelude.{◌≡◌, ℕ, ◌<◌, ◌⊎◌, List, Bool, true, false, Some, IsSomeAnd, slice_get, length, map}
 use Rattle.pc_rows.specs.Linear.{State}
 use Rattle.pc_flow.specs.declared.what.What.{What}
 use Rattle.pc_flow.specs.Carry.{HasVariable}
@@ -12,6 +12,10 @@ use Rattle.pc_domain.specs.Fold.{Folds}
 -- which points are heads
 abbrev pub heads : Flow → List Bool
 heads g = map (λ point. point.head) g.points
+
+-- the point is a head
+abbrev pub IsHeadAt : Flow → ℕ → Type 0
+IsHeadAt g p = slice_get (heads g) p ≡ Some true
 
 -- what the calls of a domain promise, of states and of views together
 

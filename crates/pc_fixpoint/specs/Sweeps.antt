@@ -5,8 +5,7 @@ use Rattle.pc_flow.specs.Flow.{Flow}
 use Rattle.pc_flow.specs.Shape.{NoHeads}
 use Rattle.pc_domain.specs.declared.backward.Backward.{Ghosts}
 use Rattle.pc_domain.specs.Values.{HasAt}
-use Rattle.pc_fixpoint.specs.Flowing.{heads}
-use Rattle.pc_fixpoint.specs.Rounds.{IsHeadAt}
+use Rattle.pc_fixpoint.specs.Flowing.{heads, IsHeadAt}
 use Rattle.pc_fixpoint.specs.Ebbing.{Asked}
 
 -- no state is in the value at the point

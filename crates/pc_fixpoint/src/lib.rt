@@ -6,6 +6,7 @@ mod entry;
 mod gathering;
 mod heads;
 mod iteration;
+mod marks;
 mod recession;
 mod sweeping;
 

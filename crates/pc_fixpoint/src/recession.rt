@@ -1,13 +1,13 @@
 //! The iteration backwards.
 
-ghost use Rattle.std.specs.Prelude.{◌≡◌, false, length, map, IfOk};
-ghost use Rattle.std.specs.List.{AllByRecursion as Each};
+ghost use Rattle.std.specs.Prelude.{◌≡◌, length, map, IfOk};
 ghost use Rattle.pc_rows.specs.Linear.{State};
 ghost use Rattle.pc_flow.specs.Shape.{NoHeads};
 ghost use Rattle.pc_flow.specs.Walk.{IsEntry, GraphSafe, entered};
 ghost use Rattle.pc_domain.specs.Fold.{IsBackFold};
 ghost use Rattle.pc_domain.specs.Values.{HasAt, IsBackConsistent};
 
+use crate::marks::all_alike;
 use crate::sweeping::sweep;
 use pc_domain::{Backward, NoMemory};
 use pc_flow::Graph;
@@ -26,7 +26,7 @@ pub fn backward<B: Backward>(alloc: Global, g: &Graph) -> Result<Items<B>, NoMem
     ensures folded { IfOk result (λ values. NoHeads g.now.points → IsBackFold B.says g.now (map B.view values)) }
 {
     let mut values = start(alloc, g)?;
-    let mut spent = none_spent(alloc, g)?;
+    let mut spent = all_alike(alloc, g, false)?;
     let mut round = 0u32;
     // what they tell is read by the proof alone: the number is of 32 bits, and the graph is one
     let _last = B::LAST_ROUND;
@@ -47,16 +47,4 @@ fn start<B: Backward>(alloc: Global, g: &Graph) -> Result<Items<B>, NoMemory>
         values.push(all)?;
     }
     Ok(values)
-}
-
-/// A mark for each point, that it is not spent.
-fn none_spent(alloc: Global, g: &Graph) -> Result<Items<bool>, NoMemory>
-    ensures long { IfOk result (λ spent. length spent ≡ length g.now.points) }
-    ensures none { IfOk result (λ spent. Each (λ mark. mark ≡ false) spent) }
-{
-    let mut spent = Items::new(alloc);
-    for _p in 0..g.points() {
-        spent.push(false)?;
-    }
-    Ok(spent)
 }

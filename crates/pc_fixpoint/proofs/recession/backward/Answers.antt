@@ -12,7 +12,7 @@ pub rounds-init : goal.rounds-init
 rounds-init g c = record {
   long = c.in_ok-values.ensures;
   marks = c.in_ok-spent.ensures.long;
-  empty = λ p is. let e = each_got (λ b. b ≡ false) c.in_ok-spent.spent p _ c.in_ok-spent.ensures.none is in absurd (cc);
+  empty = λ p is. let e = each_got (λ b. b ≡ false) c.in_ok-spent.spent p _ c.in_ok-spent.ensures.each is in absurd (cc);
 }
 
 pub rounds-smaller : goal.rounds-smaller
