@@ -1,5 +1,5 @@
 -- What follows from how files and words are answered.
-use Rattle.std.proofs.Common.{◌≡◌, ◌≢◌, ◌∙◌, ◌↔◌, subst, ℕ, List, arith, ◌⊎◌, inl, inr, refl}
+use Rattle.std.proofs.Common.{◌≡◌, ◌≢◌, ◌∙◌, ◌↔◌, ap, subst, ℕ, List, arith, ◌⊎◌, inl, inr, refl}
 use Rattle.pc_ports.specs.Outside.{Holding, Untold, Nothing, Held}
 use Rattle.pc_text.specs.Bytes.{Bytes}
 use Rattle.pc_program.specs.declared.program.Program.{Program}
@@ -32,16 +32,24 @@ pub record Usual (status : ℕ) : Type 0 where
 usual : (status : ℕ) → (status ≡ DONE) ⊎ ((status ≡ FAILED) ⊎ ((status ≡ REFUSED) ⊎ ((status ≡ MALFORMED) ⊎ ((status ≡ TOO_LONG) ⊎ (status ≡ PAST))))) → Usual status
 usual status h = record { answered = (omega arith, omega arith, omega arith); known = λ u. omega arith }
 
-of_ruling : (status : ℕ) (r : Ruling) → status ≡ ruling_status r → IsRuling status
-of_ruling status ruling.Accepted s = inl s
-of_ruling status ruling.Shape s = inr s
-of_ruling status (ruling.Entry a r) s = inr s
-of_ruling status (ruling.Count a e) s = inr s
-of_ruling status (ruling.Negative a e r) s = inr s
-of_ruling status (ruling.Index a e r) s = inr s
-of_ruling status (ruling.Past a e r) s = inr s
-of_ruling status (ruling.NotBelow a e r) s = inr s
-of_ruling status (ruling.Left a e r v) s = inr s
+-- a ruling accepts, or its status is that of failures
+pub accepts_or_fails : (r : Ruling) → (r ≡ ruling.Accepted) ⊎ (ruling_status r ≡ FAILED)
+accepts_or_fails ruling.Accepted = inl refl
+accepts_or_fails ruling.Shape = inr refl
+accepts_or_fails (ruling.Entry a r) = inr refl
+accepts_or_fails (ruling.Count a e) = inr refl
+accepts_or_fails (ruling.Negative a e r) = inr refl
+accepts_or_fails (ruling.Index a e r) = inr refl
+accepts_or_fails (ruling.Past a e r) = inr refl
+accepts_or_fails (ruling.NotBelow a e r) = inr refl
+accepts_or_fails (ruling.Left a e r v) = inr refl
+
+pub of_ruling : (status : ℕ) (r : Ruling) → status ≡ ruling_status r → IsRuling status
+of_ruling status r s = by (accepts_or_fails r)
+  where
+    by : (r ≡ ruling.Accepted) ⊎ (ruling_status r ≡ FAILED) → IsRuling status
+    by (inl e) = inl (s ∙ ap ruling_status e)
+    by (inr e) = inr (s ∙ e)
 
 of_verdict : (status : ℕ) (v : Verdict) → status ≡ verdict_status v → IsVerdict status
 of_verdict status (verdict.Violated n p) s = inr (inl s)

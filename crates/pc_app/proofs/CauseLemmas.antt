@@ -32,6 +32,12 @@ may_be_there held bytes holds e = subst (λ (h : Holding). MayHold h bytes) e ho
 pub is_there : (P : Bytes → Type 0) (held : Holding) → IsHeld P held → held ≢ Nothing
 is_there P held h e = subst (λ (z : Holding). IsHeld P z) e h
 
+-- a file that means something may mean it
+pub may_mean : (kind : Kind) (P : kind.Meaning → Type 0) (held : Holding) → IsMeant kind P held → (m : kind.Meaning) × MayMean kind held m × P m
+may_mean kind P held h =
+    let x = some_held (λ bytes. (length bytes ≤ kind.limit) × ((m : kind.Meaning) × kind.Means bytes m × P m)) held h in
+    (x.2.1.0, record { bytes = x.0; has = record { holds = x.1; short = x.2.0 }; means = x.2.1.1 }, x.2.1.2)
+
 -- ---- files of any kind
 
 module _ (kind : Kind) (A : kind.Meaning → ℕ → Bytes → Type 0) (held : Holding) where
@@ -49,6 +55,21 @@ module _ (kind : Kind) (A : kind.Meaning → ℕ → Bytes → Type 0) (held : H
   over_cause status text told apart s (IsRefused (inl long)) = inl (is_held (λ bytes. kind.limit < length bytes) held told long.bytes long.holds long.more)
   over_cause status text told apart s (IsRefused (inr faulty)) = absurd (apart (sym faulty.status_is ∙ s))
   over_cause status text told apart s (IsRead m is a) = inr (m, is, a)
+
+  -- a file that means something is answered as that is
+  pub meant_answer : (P : kind.Meaning → Type 0) (status : ℕ) → ((m : kind.Meaning) → P m → (text : Bytes) × A m status text) → IsMeant kind P held → (text : Bytes) × OnFile kind A held status text
+  meant_answer P status f h =
+      let x = may_mean kind P held h in
+      let y = f x.0 x.2 in
+      (y.0, IsRead x.0 x.1 y.1)
+
+  -- a file with no status of files without a meaning means something, which is answered
+  pub meant_cause : (P : kind.Meaning → Type 0) (status : ℕ) (text : Bytes) → held ≢ Untold → status ≢ TOO_LONG → status ≢ kind.status → ((m : kind.Meaning) → A m status text → P m) →
+      OnFile kind A held status text → IsMeant kind P held
+  meant_cause P status text told not_long not_faulty f (IsRefused (inl long)) = absurd (not_long long.status_is)
+  meant_cause P status text told not_long not_faulty f (IsRefused (inr faulty)) = absurd (not_faulty faulty.status_is)
+  meant_cause P status text told not_long not_faulty f (IsRead m is a) =
+      is_held (λ bytes. (length bytes ≤ kind.limit) × ((m : kind.Meaning) × kind.Means bytes m × P m)) held told is.bytes is.has.holds (is.has.short, (m, is.means, f m a))
 
   module _ (Alike : kind.Meaning → kind.Meaning → Type 0) (decided : IsDecided kind Alike) where
     faulty_answer : (bytes : Bytes) → MayHold held bytes → length bytes ≤ kind.limit → (f : kind.Fault) → kind.Faulty bytes f → OnFile kind A held kind.status (kind.line f)
@@ -84,8 +105,3 @@ module _ (kind : Kind) (A : kind.Meaning → ℕ → Bytes → Type 0) (held : H
     meant_read status text told n is (IsRead m other a) =
         let h = is_held (λ bytes. kind.Means bytes n) held told is.bytes is.has.holds is.means in
         (m, decided.alike other.bytes n m (of_held (λ bytes. kind.Means bytes n) held h other.bytes other.has.holds) other.means, a)
-
-pub may_mean : (kind : Kind) (held : Holding) → IsMeant kind held → (m : kind.Meaning) × MayMean kind held m
-may_mean kind held h =
-    let x = some_held (λ bytes. (length bytes ≤ kind.limit) × ((m : kind.Meaning) × kind.Means bytes m)) held h in
-    (x.2.1.0, record { bytes = x.0; has = record { holds = x.1; short = x.2.0 }; means = x.2.1.1 })

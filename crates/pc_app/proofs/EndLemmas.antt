@@ -3,7 +3,7 @@ use Rattle.std.proofs.Common.{◌≡◌, sym, ℕ, ◌↔◌, ◌⊎◌, inl, in
 use Rattle.pc_ports.specs.Outside.{Holding, Nothing, Held, Rose, Appended}
 use Rattle.pc_text.specs.Bytes.{Bytes}
 use Rattle.pc_program.specs.declared.program.Program.{Program}
-use Rattle.pc_app.specs.declared.status.TheConstants.{DONE, USAGE, REFUSED, MALFORMED, STORE_FAILED, SINK_FAILED, NO_MEMORY, TOO_LONG}
+use Rattle.pc_app.specs.declared.status.TheConstants.{DONE, FAILED, USAGE, REFUSED, MALFORMED, STORE_FAILED, SINK_FAILED, NO_MEMORY, TOO_LONG, PAST}
 use Rattle.pc_words.specs.declared.domains.FactsDomain.{FactsDomain}
 use Rattle.pc_words.specs.declared.domains.QuickDomain.{QuickDomain}
 use Rattle.pc_words.specs.Words.{Order, Infer, Certify, Replay, Run, Facts, Quick, Show, Trial, Inputs, Made, Source, WithCertificate, WithScript, inputs_of, names_of, files_of}
@@ -13,13 +13,15 @@ use Rattle.pc_app.specs.Kinds.{source_kind}
 use Rattle.pc_app.specs.Answers.{Says, OrderAnswers}
 use Rattle.pc_app.specs.Silences.{IsLost, IsLostBehind, AreLost, OrderIsLost, LacksFile}
 use Rattle.pc_app.specs.Causes.{IsRuling, IsVerdict, OrderIsTooLong, OrderIsRefused, OrderIsMalformed, OrderIsMeant, IsOutcome}
+use Rattle.pc_app.specs.Outcomes.{Fails, GoesPast, OrderHasFailed, OrderIsPast}
 use Rattle.pc_app.specs.Promises.{OfBytes, PrintedSuffices, PrintedIsExact, PrintedCovers, PrintedCertificate, PrintedRuling, PrintedAccepted, PrintedVerdict, PrintedProgram, PrintedFacts, PrintedEnough, PrintedTrial, AreTold, AreThere, IsAnswered, IsOnlyStatus, HasAnswered, IsCutOff, Ends}
 use Rattle.pc_app.specs.Promises.Ends.{Answered, Unread, CutOff, Starved}
 use Rattle.pc_words.proofs.SpellingLemmas.{one_thing}
 use Rattle.pc_app.proofs.AnswerLemmas.{says_ends, order_answers, answers_is_answered, answers_usage, of_nothing, of_bytes}
 use Rattle.pc_app.proofs.PromiseLemmas.{infer_is_exact, infer_covers, certify_is_right, replay_is_ruling, run_is_verdict, show_is_text, facts_are_known, quick_is_enough, trial_is_told, of_source_accepts, suffices_of}
 use Rattle.pc_app.proofs.OnlyLemmas.{order_once, words_once}
-use Rattle.pc_app.proofs.StatusLemmas.{too_long_answer, refused_answer, malformed_answer, too_long_cause, refused_cause, malformed_cause, outcome, are_there}
+use Rattle.pc_app.proofs.StatusLemmas.{too_long_answer, refused_answer, malformed_answer, meant_answers, too_long_cause, refused_cause, malformed_cause, meant_causes, outcome, are_there}
+use Rattle.pc_app.proofs.OutcomeLemmas.{fails_answer, past_answer, fails_cause, past_cause}
 
 module _ (words : List Bytes) (held : Bytes → Holding) (old new : Option Bytes) (store_before store_now sink_before sink_now status : ℕ) where
   abbrev pub Ended : Type 0
@@ -101,20 +103,39 @@ module _ (words : List Bytes) (held : Bytes → Holding) (old new : Option Bytes
   comes : Ended → IsAnswered status → (order : Order) → Orders words order → AreTold held (files_of order) → (other : ℕ) → (text : Bytes) × OrderAnswers held order other text → status ≡ other
   comes ends is order ordered told other x = let a = order_of ends is order ordered in sym (order_once other x.0 status a.0 held order told x.1 a.1)
 
+  -- so a status comes exactly where its cause stands, where the cause gives an answer with it, and such an answer tells the cause
+  exactly : Ended → IsAnswered status → (order : Order) → Orders words order → AreTold held (files_of order) → (other : ℕ) (Cause : Type 0) →
+      ((text : Bytes) → status ≡ other → OrderAnswers held order status text → Cause) → (Cause → (text : Bytes) × OrderAnswers held order other text) → (status ≡ other) ↔ Cause
+  exactly ends is order ordered told other Cause tells gives =
+      let a = order_of ends is order ordered in
+      (λ e. tells a.0 e a.1, λ h. comes ends is order ordered told other (gives h))
+
   pub too_long : Ended → (order : Order) → Orders words order → AreTold held (files_of order) → IsAnswered status → (status ≡ TOO_LONG) ↔ OrderIsTooLong held order
   too_long ends order ordered told is =
-      let a = order_of ends is order ordered in
-      (λ e. too_long_cause status a.0 held (inputs_of order) (Says order) (says_ends status a.0 order) told e a.1, λ h. comes ends is order ordered told TOO_LONG (too_long_answer held (inputs_of order) (Says order) h))
+      exactly ends is order ordered told TOO_LONG (OrderIsTooLong held order)
+      (λ text e a. too_long_cause status text held (inputs_of order) (Says order) (says_ends status text order) told e a) (too_long_answer held (inputs_of order) (Says order))
 
   pub refused : Ended → (order : Order) → Orders words order → AreTold held (files_of order) → IsAnswered status → (status ≡ REFUSED) ↔ OrderIsRefused held order
   refused ends order ordered told is =
-      let a = order_of ends is order ordered in
-      (λ e. refused_cause status a.0 held (inputs_of order) (Says order) (says_ends status a.0 order) told e a.1, λ h. comes ends is order ordered told REFUSED (refused_answer held (inputs_of order) (Says order) h))
+      exactly ends is order ordered told REFUSED (OrderIsRefused held order)
+      (λ text e a. refused_cause status text held (inputs_of order) (Says order) (says_ends status text order) told e a) (refused_answer held (inputs_of order) (Says order))
 
   pub malformed : Ended → (order : Order) → Orders words order → AreTold held (files_of order) → IsAnswered status → (status ≡ MALFORMED) ↔ OrderIsMalformed held order
   malformed ends order ordered told is =
-      let a = order_of ends is order ordered in
-      (λ e. malformed_cause status a.0 held (inputs_of order) (Says order) (says_ends status a.0 order) told e a.1, λ h. comes ends is order ordered told MALFORMED (malformed_answer held (inputs_of order) (Says order) h))
+      exactly ends is order ordered told MALFORMED (OrderIsMalformed held order)
+      (λ text e a. malformed_cause status text held (inputs_of order) (Says order) (says_ends status text order) told e a) (malformed_answer held (inputs_of order) (Says order))
+
+  pub failed : Ended → (order : Order) → Orders words order → AreTold held (files_of order) → IsAnswered status → (status ≡ FAILED) ↔ OrderHasFailed held order
+  failed ends order ordered told is =
+      exactly ends is order ordered told FAILED (OrderHasFailed held order)
+      (λ text e a. meant_causes status text held (inputs_of order) (Says order) (Fails order) (fails_cause status text order e) told (inl e) a)
+      (meant_answers held (inputs_of order) (Says order) (Fails order) FAILED (fails_answer order))
+
+  pub past : Ended → (order : Order) → Orders words order → AreTold held (files_of order) → IsAnswered status → (status ≡ PAST) ↔ OrderIsPast held order
+  past ends order ordered told is =
+      exactly ends is order ordered told PAST (OrderIsPast held order)
+      (λ text e a. meant_causes status text held (inputs_of order) (Says order) (GoesPast order) (past_cause status text order e) told (inr e) a)
+      (meant_answers held (inputs_of order) (Says order) (GoesPast order) PAST (past_answer order))
 
   pub store : Ended → status ≡ STORE_FAILED → LacksFile words held store_before store_now
   store (Answered a) e = absurd ((answers_is_answered words held status a.text a.answers).0 e)
@@ -162,8 +183,8 @@ module _ (words : List Bytes) (held : Bytes → Holding) (old new : Option Bytes
 
   pub complete : Ended → (order : Order) → Orders words order → AreTold held (files_of order) → OrderIsMeant held order →
       (Rose store_before store_now → ⊥) → (Rose sink_before sink_now → ⊥) → IsOutcome order status ⊎ (status ≡ NO_MEMORY)
-  complete ends order ordered told meant store_kept sink_kept = by (answers ends order ordered (are_there held (inputs_of order) meant) store_kept sink_kept)
+  complete ends order ordered told meant store_kept sink_kept = by (answers ends order ordered (are_there held (inputs_of order) (λ given. Unit {0}) meant) store_kept sink_kept)
     where
       by : IsAnswered status ⊎ (status ≡ NO_MEMORY) → IsOutcome order status ⊎ (status ≡ NO_MEMORY)
-      by (inl is) = let a = order_of ends is order ordered in inl (outcome status a.0 held (inputs_of order) (Says order) (says_ends status a.0 order) told meant a.1)
+      by (inl is) = let a = order_of ends is order ordered in inl (outcome status a.0 held (inputs_of order) (Says order) (λ given. Unit {0}) (says_ends status a.0 order) told meant a.1)
       by (inr s) = inr s

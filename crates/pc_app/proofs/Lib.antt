@@ -13,6 +13,7 @@ pub mod OnlyLemmas
 pub mod CauseLemmas
 pub mod StatusLemmas
 pub mod PromiseLemmas
+pub mod OutcomeLemmas
 pub mod EndLemmas
 pub mod InferLemmas
 pub mod Programs

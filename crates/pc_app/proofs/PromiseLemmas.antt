@@ -1,5 +1,5 @@
 -- What an answer to an order promises of the program, by what was written.
-use Rattle.std.proofs.Common.{◌≡◌, ◌∙◌, sym, subst, ℕ, Option, arith, refl}
+use Rattle.std.proofs.Common.{◌≡◌, ◌∙◌, sym, subst, ◌⊎◌, inl, inr, ℕ, Option, arith, refl}
 use Rattle.pc_ports.specs.Outside.{Holding, Untold, Nothing, Held, Appended}
 use Rattle.pc_text.specs.Bytes.{Bytes}
 use Rattle.pc_graph.specs.Lowering.{graph}
@@ -10,7 +10,7 @@ use Rattle.pc_replay.specs.declared.ruling.Ruling.{Ruling}
 use Rattle.pc_replay.specs.declared.ruling.Ruling.TheVariants as answer
 use Rattle.pc_replay.proofs.Ruled.{rule_is_meant}
 use Rattle.pc_app.proofs.Programs.{accepted_programs_are_safe}
-use Rattle.pc_app.specs.declared.status.TheConstants.{DONE}
+use Rattle.pc_app.specs.declared.status.TheConstants.{DONE, FAILED}
 use Rattle.pc_app.specs.Rulings.{ruling_status, ruling_text}
 use Rattle.pc_app.specs.Files.{OnFile}
 use Rattle.pc_app.specs.Inferred.{Inferred}
@@ -21,7 +21,7 @@ use Rattle.pc_words.specs.declared.domains.QuickDomain.{QuickDomain}
 use Rattle.pc_app.specs.Answers.{InferAnswers, CertifyAnswers, ReplayAnswers, RunAnswers, ShowAnswers, FactsAnswers, QuickAnswers, OnReplay, OnRun}
 use Rattle.pc_app.specs.Causes.{IsRuling, IsVerdict}
 use Rattle.pc_app.specs.Promises.{OfBytes, PrintedSuffices, PrintedIsExact, PrintedCovers, PrintedCertificate, PrintedRuling, PrintedAccepted, PrintedVerdict, PrintedProgram, PrintedFacts, PrintedEnough, PrintedTrial}
-use Rattle.pc_app.proofs.AnswerLemmas.{file_read, of_bytes, of_nothing}
+use Rattle.pc_app.proofs.AnswerLemmas.{accepts_or_fails, file_read, of_bytes, of_nothing}
 
 module _ (held : Holding) (bytes : Bytes) (status : ℕ) (text : Bytes) (old new : Option Bytes) (e : held ≡ Held bytes) (written : Appended old new text) where
   -- what was written, where it is told what the text is
@@ -128,15 +128,11 @@ trial_is_told loops status text old new a written =
     }
 
 done_is_accepted : (r : Ruling) → DONE ≡ ruling_status r → r ≡ answer.Accepted
-done_is_accepted answer.Accepted e = refl
-done_is_accepted answer.Shape e = absurd (omega arith)
-done_is_accepted (answer.Entry a r) e = absurd (omega arith)
-done_is_accepted (answer.Count a d) e = absurd (omega arith)
-done_is_accepted (answer.Negative a d r) e = absurd (omega arith)
-done_is_accepted (answer.Index a d r) e = absurd (omega arith)
-done_is_accepted (answer.Past a d r) e = absurd (omega arith)
-done_is_accepted (answer.NotBelow a d r) e = absurd (omega arith)
-done_is_accepted (answer.Left a d r v) e = absurd (omega arith)
+done_is_accepted r done = by (accepts_or_fails r)
+  where
+    by : (r ≡ answer.Accepted) ⊎ (ruling_status r ≡ FAILED) → r ≡ answer.Accepted
+    by (inl e) = e
+    by (inr e) = absurd (omega arith)
 
 -- a ruling that is done is that the certificate is right
 ruling_accepts : (source certificate : Bytes) (status : ℕ) (old new : Option Bytes) → status ≡ DONE → PrintedRuling source certificate status old new → PrintedAccepted source certificate old new

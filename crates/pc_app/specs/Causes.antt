@@ -6,6 +6,7 @@ use Rattle.pc_program.specs.declared.program.Program.{Program}
 use Rattle.pc_app.specs.declared.status.TheConstants.{DONE, FAILED, PAST}
 use Rattle.pc_app.specs.Files.{Kind, MayMean}
 use Rattle.pc_app.specs.Kinds.{source_kind, script_kind, certificate_kind}
+use Rattle.pc_app.specs.Answers.{Given}
 use Rattle.pc_words.specs.Words.{Order, Inputs, Made, Source, WithCertificate, WithScript, inputs_of}
 
 -- what holds of the bytes that are held
@@ -22,9 +23,9 @@ IsOver kind held = IsHeld (λ bytes. kind.limit < length bytes) held
 abbrev pub IsMeaningless : Kind → Holding → Type 0
 IsMeaningless kind held = IsHeld (λ bytes. (length bytes ≤ kind.limit) × ((m : kind.Meaning) → kind.Means bytes m → ⊥)) held
 
--- the file holds bytes, no more than its limit, that mean something
-abbrev pub IsMeant : Kind → Holding → Type 0
-IsMeant kind held = IsHeld (λ bytes. (length bytes ≤ kind.limit) × ((m : kind.Meaning) × kind.Means bytes m)) held
+-- the file holds bytes, no more than its limit, that mean something of which this holds
+abbrev pub IsMeant : (kind : Kind) → (kind.Meaning → Type 0) → Holding → Type 0
+IsMeant kind P held = IsHeld (λ bytes. (length bytes ≤ kind.limit) × ((m : kind.Meaning) × kind.Means bytes m × P m)) held
 
 -- a source is read as a program, of which this holds
 pub record Behind (source : Holding) (P : Program → Type 0) : Type 0 where
@@ -53,12 +54,12 @@ AreMalformed held (Source source) = ⊥
 AreMalformed held (WithCertificate source certificate) = Behind (held source) (λ p. IsMeaningless certificate_kind (held certificate))
 AreMalformed held (WithScript source script) = Behind (held source) (λ p. IsMeaningless (script_kind p.names.params) (held script))
 
--- each file is what it is to be
-abbrev pub AreMeant : (Bytes → Holding) → Inputs → Type 0
-AreMeant held (Made loops) = Unit {0}
-AreMeant held (Source source) = IsMeant source_kind (held source)
-AreMeant held (WithCertificate source certificate) = Behind (held source) (λ p. IsMeant certificate_kind (held certificate))
-AreMeant held (WithScript source script) = Behind (held source) (λ p. IsMeant (script_kind p.names.params) (held script))
+-- each file is what it is to be, and this holds of what they mean
+abbrev pub AreMeant : (Bytes → Holding) → (inputs : Inputs) → (Given inputs → Type 0) → Type 0
+AreMeant held (Made loops) P = P tt
+AreMeant held (Source source) P = IsMeant source_kind P (held source)
+AreMeant held (WithCertificate source certificate) P = Behind (held source) (λ p. IsMeant certificate_kind (λ c. P (p, c)) (held certificate))
+AreMeant held (WithScript source script) P = Behind (held source) (λ p. IsMeant (script_kind p.names.params) (λ c. P (p, c)) (held script))
 
 -- the same of the files of an order
 abbrev pub OrderIsTooLong : (Bytes → Holding) → Order → Type 0
@@ -71,7 +72,7 @@ abbrev pub OrderIsMalformed : (Bytes → Holding) → Order → Type 0
 OrderIsMalformed held order = AreMalformed held (inputs_of order)
 
 abbrev pub OrderIsMeant : (Bytes → Holding) → Order → Type 0
-OrderIsMeant held order = AreMeant held (inputs_of order)
+OrderIsMeant held order = AreMeant held (inputs_of order) (λ given. Unit {0})
 
 -- the statuses of a ruling and of a verdict
 abbrev pub IsRuling : ℕ → Type 0

@@ -11,6 +11,7 @@ pub mod Kinds
 pub mod Answers
 pub mod Silences
 pub mod Causes
+pub mod Outcomes
 pub mod Reading
 pub mod Promises
 pub mod Programs

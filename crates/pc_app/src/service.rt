@@ -8,11 +8,12 @@ ghost use Rattle.pc_words.specs.declared.domains.FactsDomain.{FactsDomain};
 ghost use Rattle.pc_words.specs.declared.domains.QuickDomain.{QuickDomain};
 ghost use Rattle.pc_app.specs.Silences.{LacksFile};
 ghost use Rattle.pc_app.specs.Causes.{IsRuling, IsVerdict, OrderIsTooLong, OrderIsRefused, OrderIsMalformed, OrderIsMeant, IsOutcome};
+ghost use Rattle.pc_app.specs.Outcomes.{OrderHasFailed, OrderIsPast};
 ghost use Rattle.pc_app.specs.Promises.{OfBytes, PrintedSuffices, PrintedIsExact, PrintedCovers, PrintedCertificate, PrintedRuling, PrintedAccepted, PrintedVerdict, PrintedProgram, PrintedFacts, PrintedEnough, PrintedTrial, AreTold, AreThere, IsOnlyStatus, IsWritten, IsAnswered, HasAnswered, IsCutOff, Ends};
 
 use crate::answer::{Answer, Stop, answer_to_words};
 use crate::status::{
-    DONE, MALFORMED, NO_MEMORY, REFUSED, SINK_FAILED, STORE_FAILED, TOO_LONG, USAGE,
+    DONE, FAILED, MALFORMED, NO_MEMORY, PAST, REFUSED, SINK_FAILED, STORE_FAILED, TOO_LONG, USAGE,
 };
 use pc_ports::{Sink, Store, WriteFault, put_all};
 use std::alloc::Global;
@@ -38,7 +39,7 @@ use std::alloc::Global;
 /// form that its answer is written as.
 ///
 /// An answer ends with [`DONE`], but a refused certificate and a violated assertion with
-/// [`FAILED`](crate::FAILED), and a run whose values leave the range with [`PAST`](crate::PAST).
+/// [`FAILED`], and a run whose values leave the range with [`PAST`].
 /// What is written with each other status, and when it comes, stands with the statuses.
 pub fn serve<S: Store, K: Sink>(alloc: Global, words: &[String], store: &mut S, out: &mut K) -> u8
     // In all clauses words order something in its plain form, or, where they are in none, as `clap` takes them.
@@ -124,6 +125,15 @@ pub fn serve<S: Store, K: Sink>(alloc: Global, words: &[String], store: &mut S, 
     // Malformed exactly where a source is read, and the certificate or the script behind it is none.
     ensures malformed { (order : Order) → Orders (map string_bytes words.now) order → AreTold (S.holding store.old) (files_of order) →
         IsAnswered result → (result ≡ MALFORMED) ↔ OrderIsMalformed (S.holding store.old) order }
+
+    // Failed exactly where a source is read, and the certificate behind it is not right for the program's graph, or
+    // the run over the script behind it violates an assertion.
+    ensures failed { (order : Order) → Orders (map string_bytes words.now) order → AreTold (S.holding store.old) (files_of order) →
+        IsAnswered result → (result ≡ FAILED) ↔ OrderHasFailed (S.holding store.old) order }
+
+    // Past exactly where a source is read, and the run over the script behind it needs a value that is not in range.
+    ensures past { (order : Order) → Orders (map string_bytes words.now) order → AreTold (S.holding store.old) (files_of order) →
+        IsAnswered result → (result ≡ PAST) ↔ OrderIsPast (S.holding store.old) order }
 
     // The faults outside have their causes; a second file is lost only behind a source that may be read.
     // Without memory, and without a file, nothing is written.

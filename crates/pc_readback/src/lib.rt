@@ -1,4 +1,4 @@
-//! What canonical texts spell: a leaf, on which nothing stands. Each law is the contract of a function
+//! What canonical texts spell, on which `pc_made` alone stands. Each law is the contract of a function
 //! that does nothing.
 #![tactic(auto)]
 

@@ -25,6 +25,12 @@ returns-clause-refused g c = ends.refused _ _ _ _ _ _ _ _ _ c.respond.ensures.en
 pub returns-clause-malformed : goal.returns-clause-malformed
 returns-clause-malformed g c = ends.malformed _ _ _ _ _ _ _ _ _ c.respond.ensures.ends
 
+pub returns-clause-failed : goal.returns-clause-failed
+returns-clause-failed g c = ends.failed _ _ _ _ _ _ _ _ _ c.respond.ensures.ends
+
+pub returns-clause-past : goal.returns-clause-past
+returns-clause-past g c = ends.past _ _ _ _ _ _ _ _ _ c.respond.ensures.ends
+
 pub returns-clause-store : goal.returns-clause-store
 returns-clause-store g c = ends.store _ _ _ _ _ _ _ _ _ c.respond.ensures.ends
 
