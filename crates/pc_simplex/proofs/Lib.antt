@@ -3,6 +3,7 @@ pub mod Places
 pub mod TermLists
 pub mod Multiples
 pub mod Nothing
+pub mod Negating
 pub mod Zeros
 pub mod PointLines
 pub mod Picking

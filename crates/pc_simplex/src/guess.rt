@@ -6,9 +6,10 @@ ghost use Rattle.pc_simplex.specs.Found.{point_of, proof_of};
 ghost use Rattle.pc_simplex.specs.Searching.{SearchIs, EvidenceIs, PointIs, ProofIs, AreTold, IsTold};
 
 use crate::found::{point, proof};
+use crate::negation::{negated_constant, negated_value};
 use crate::table::Table;
 use crate::turns::{End, run};
-use pc_rows::{NoMemory, Past, Point, Proof, Row, System, shows, sign_at};
+use pc_rows::{NoMemory, Number, Past, Point, Proof, Row, System, shows, sign_at};
 use std::alloc::Global;
 
 /// What a search finds.
@@ -28,25 +29,25 @@ pub fn search(alloc: Global, s: &System) -> Result<Guess, NoMemory>
     ensures exact { SearchIs s.now result }
     ensures evidence { EvidenceIs s.now result }
 {
-    let negated = match s.goal().negated() {
-        Ok(negated) => negated,
+    let constant = match negated_constant(s.goal()) {
+        Ok(constant) => constant,
         Err(Past) => return Ok(Guess::GaveUp),
     };
-    let mut table = Table::new(alloc, s, &negated)?;
+    let mut table = Table::new(alloc, s, constant)?;
     match run(&mut table) {
-        End::Met => Ok(checked_point(s, &negated, &table)),
+        End::Met => Ok(checked_point(s, constant, &table)),
         End::Stuck(r) => checked_proof(alloc, s, &table, r),
         End::GaveUp => Ok(Guess::GaveUp),
     }
 }
 
 /// The table's point, where the sign of each row there is told and not negative.
-fn checked_point(s: &System, negated: &Row, t: &Table) -> Guess
-    requires { negated.now ≡ negation s.now.goal }
+fn checked_point(s: &System, constant: Number, t: &Table) -> Guess
+    requires { constant ≡ (negation s.now.goal).constant }
     ensures { PointIs s.now (point_of t.now) result }
 {
     match point(t) {
-        Ok(point) => if are_told(s, negated, &point) {
+        Ok(point) => if are_told(s, constant, &point) {
             Guess::Point(point)
         } else {
             Guess::GaveUp
@@ -56,8 +57,8 @@ fn checked_point(s: &System, negated: &Row, t: &Table) -> Guess
 }
 
 /// Whether the sign of each premise and of the negated goal is told at the point, and not negative.
-fn are_told(s: &System, negated: &Row, p: &Point) -> bool
-    requires { negated.now ≡ negation s.now.goal }
+fn are_told(s: &System, constant: Number, p: &Point) -> bool
+    requires { constant ≡ (negation s.now.goal).constant }
     ensures { (result ≡ true) ↔ AreTold s.now p.now }
 {
     for i in 0..s.len() {
@@ -65,7 +66,7 @@ fn are_told(s: &System, negated: &Row, p: &Point) -> bool
             return false;
         }
     }
-    is_told(negated, p)
+    is_negation_told(s.goal(), constant, p)
 }
 
 fn is_told(r: &Row, p: &Point) -> bool
@@ -74,6 +75,17 @@ fn is_told(r: &Row, p: &Point) -> bool
     match sign_at(r, p) {
         Some(sign) => sign,
         None => false,
+    }
+}
+
+/// The same of the negation of a row, which has this constant.
+fn is_negation_told(r: &Row, constant: Number, p: &Point) -> bool
+    requires { constant ≡ (negation r.now).constant }
+    ensures { (result ≡ true) ↔ IsTold p.now (negation r.now) }
+{
+    match negated_value(r, constant, p) {
+        Ok(value) => value.is_at_least_zero(),
+        Err(Past) => false,
     }
 }
 

@@ -15,6 +15,7 @@ mod found;
 mod guess;
 mod label;
 mod line;
+mod negation;
 mod table;
 mod turns;
 mod word;

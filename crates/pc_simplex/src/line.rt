@@ -1,6 +1,7 @@
 //! Lines of a table.
 
 ghost use Rattle.std.specs.Prelude.{◌≡◌, ◌<◌, ◌≤◌, ℕ, pos, length, drop, replicate};
+ghost use Rattle.pc_rows.specs.Linear.{negate_list};
 ghost use Rattle.pc_simplex.specs.Choosing.{leaving, number_at};
 ghost use Rattle.pc_simplex.specs.Values.{AreZero};
 ghost use Rattle.pc_simplex.specs.declared.label.Label.TheVariants.{Row as OfRow};
@@ -54,6 +55,16 @@ impl Line {
             width,
             numbers,
         }
+    }
+
+    /// The line of row `i`, which is the negation of `r` and has this constant.
+    pub fn of_negation(i: u32, r: &Row, constant: Number) -> Line
+        ensures { result ≡ record { label = OfRow i; constant = constant; numbers = negate_list r.now.coefficients } }
+    {
+        let mut line = Line::of_row(i, r);
+        line.constant = constant;
+        negate(line.width, &mut line.numbers);
+        line
     }
 
     /// The same line.
@@ -121,6 +132,19 @@ impl Line {
                 }
             }
         }
+    }
+}
+
+/// Puts the opposite for each number; from column `width` on they are 0, and stay so.
+fn negate(width: usize, numbers: &mut [Number; VARIABLES])
+    requires most { width ≤ VARIABLES }
+    requires zero { AreZero (drop width numbers.old) }
+    ensures value { numbers.new ≡ negate_list numbers.old }
+    ensures long { length numbers.new ≡ VARIABLES }
+    ensures rest { AreZero (drop width numbers.new) }
+{
+    for k in 0..width {
+        numbers[k] = numbers[k].negated();
     }
 }
 

@@ -11,7 +11,7 @@ ghost use Rattle.pc_simplex.specs.Turns.{first_table, variables_from, lines_of};
 use crate::choice::{Choice, entering, leaving};
 use crate::label::Label;
 use crate::line::{Line, Pivot};
-use pc_rows::{NoMemory, Number, Past, Row, System, VARIABLES};
+use pc_rows::{NoMemory, Number, Past, System, VARIABLES};
 use std::alloc::Global;
 use std::marker::Model;
 
@@ -37,9 +37,9 @@ impl Model for Table {
 }
 
 impl Table {
-    /// The table of the premises in order and then the negated goal.
-    pub fn new(alloc: Global, s: &System, negated: &Row) -> Result<Table, NoMemory>
-        requires { negated.now ≡ negation s.now.goal }
+    /// The table of the premises in order and then the negated goal, which has this constant.
+    pub fn new(alloc: Global, s: &System, negated: Number) -> Result<Table, NoMemory>
+        requires { negated ≡ (negation s.now.goal).constant }
         ensures { IfOk result (λ t. t ≡ first_table s.now) }
     {
         Ok(Table {
@@ -141,8 +141,8 @@ fn variables() -> [Label; VARIABLES]
     all
 }
 
-fn lines(alloc: Global, s: &System, negated: &Row) -> Result<Vec<Line>, NoMemory>
-    requires { negated.now ≡ negation s.now.goal }
+fn lines(alloc: Global, s: &System, negated: Number) -> Result<Vec<Line>, NoMemory>
+    requires { negated ≡ (negation s.now.goal).constant }
     ensures { IfOk result (λ lines. lines.items ≡ lines_of 0 (refuting s.now)) }
 {
     let premises = s.len();
@@ -150,7 +150,10 @@ fn lines(alloc: Global, s: &System, negated: &Row) -> Result<Vec<Line>, NoMemory
     for i in 0..premises {
         add(&mut lines, Line::of_row(i as u32, s.premise(i)))?;
     }
-    add(&mut lines, Line::of_row(premises as u32, negated))?;
+    add(
+        &mut lines,
+        Line::of_negation(premises as u32, s.goal(), negated),
+    )?;
     Ok(lines)
 }
 

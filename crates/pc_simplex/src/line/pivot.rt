@@ -68,17 +68,16 @@ impl Pivot {
         greater(self.line.width(), self.column + 1)
     }
 
-    /// What the pivot's own line becomes, with the label of the column.
-    fn own_after(&self, label: Label) -> Line
-        ensures { result ≡ own_after self.now label }
+    /// Makes of a line what the pivot's own becomes, with the label of the column.
+    fn change_own(&self, label: Label, line: &mut Line)
+        ensures { line.new ≡ own_after self.now label }
     {
         let width = self.width();
-        Line {
-            label,
-            constant: signed(self.up, self.line.constant).negated(),
-            width,
-            numbers: self.own_numbers(width),
-        }
+        line.label = label;
+        line.constant = signed(self.up, self.line.constant).negated();
+        line.width = width;
+        line.numbers = self.line.numbers;
+        self.change_own_numbers(width, &mut line.numbers);
     }
 
     /// Changes a line, where `here` says whether it is the pivot's own. `Past` exactly where something
@@ -87,24 +86,24 @@ impl Pivot {
         ensures { ChangeIs (line_fits self.now here line.old) (line_after self.now label here line.old) result line.new }
     {
         if here {
-            *line = self.own_after(label);
+            self.change_own(label, line);
             return Ok(());
         }
         self.change_other(line)
     }
 
-    fn own_numbers(&self, width: usize) -> [Number; VARIABLES]
+    /// Changes the numbers before column `width` of the pivot's own line; behind it they stay 0.
+    fn change_own_numbers(&self, width: usize, numbers: &mut [Number; VARIABLES])
         requires column { self.now.column < width }
         requires most { width ≤ VARIABLES }
-        requires zero { AreZero (drop width self.now.line.numbers) }
-        ensures value { result ≡ own_numbers self.now 0 self.now.line.numbers }
-        ensures zero { AreZero (drop width result) }
+        requires zero { AreZero (drop width numbers.old) }
+        ensures value { numbers.new ≡ own_numbers self.now 0 numbers.old }
+        ensures long { length numbers.new ≡ VARIABLES }
+        ensures rest { AreZero (drop width numbers.new) }
     {
-        let mut all = self.line.numbers;
         for k in 0..width {
-            all[k] = self.own_number(k == self.column, self.line.numbers[k]);
+            numbers[k] = self.own_number(k == self.column, numbers[k]);
         }
-        all
     }
 
     fn own_number(&self, here: bool, x: Number) -> Number

@@ -24,7 +24,8 @@ pub returns : goal.returns
 returns c =
     let p = c.args.p.now in
     let ps = c.args.s.now.premises in
-    let behind = told_behind p ps c.loop-i.i (omega (arith, c.len-i-end.ensures.value)) in (
-      λ h. each_join (IsTold p) ps (negation c.args.s.now.goal ∷ []) (c.loop-i.invariant.back behind) (subst (λ (r : Linear). IsTold p r) c.requires (c.is_told-2.ensures.0 h), tt),
-      λ h. c.is_told-2.ensures.1 (subst (λ (r : Linear). IsTold p r) (sym c.requires) (each_right (IsTold p) ps (negation c.args.s.now.goal ∷ []) h).0),
+    let behind = told_behind p ps c.loop-i.i (omega (arith, c.len-i-end.ensures.value)) in
+    let same = c.goal.ensures in (
+      λ h. each_join (IsTold p) ps (negation c.args.s.now.goal ∷ []) (c.loop-i.invariant.back behind) (subst (λ (r : Linear). IsTold p (negation r)) same (c.is_negation_told.ensures.0 h), tt),
+      λ h. c.is_negation_told.ensures.1 (subst (λ (r : Linear). IsTold p (negation r)) (sym same) (each_right (IsTold p) ps (negation c.args.s.now.goal ∷ []) h).0),
     )

@@ -1,0 +1,12 @@
+use Rattle.std.proofs.Common.{◌≡◌, ◌++◌, take, drop, length}
+use Rattle.pc_rows.specs.declared.row.TheConstants.{VARIABLES}
+use Rattle.pc_simplex.specs.Values.{AreZero}
+use Rattle.pc_simplex.specs.Pivoting.{own_numbers}
+use Rattle.pc_simplex.proofs.line.pivot.Pivot.change_own_numbers.Given as goal
+
+abbrev pub invariant-loop-k : goal.invariant-loop-k
+invariant-loop-k l = record {
+  long : length l.numbers ≡ VARIABLES;
+  zero : AreZero (drop l.width l.numbers);
+  rest : take l.k l.numbers ++ own_numbers l.self l.k (drop l.k l.numbers) ≡ own_numbers l.self 0 l.initial.numbers;
+}
