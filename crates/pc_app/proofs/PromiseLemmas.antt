@@ -1,9 +1,13 @@
 -- What an answer to an order promises of the program, by what was written.
-use Rattle.std.proofs.Common.{◌≡◌, ◌∙◌, sym, subst, ◌⊎◌, inl, inr, ℕ, Option, arith, refl}
+use Rattle.std.proofs.Common.{◌≡◌, ◌∙◌, sym, subst, ◌⊎◌, inl, inr, ℕ, Option, Ok, length, arith}
 use Rattle.pc_ports.specs.Outside.{Holding, Untold, Nothing, Held, Appended}
 use Rattle.pc_text.specs.Bytes.{Bytes}
 use Rattle.pc_graph.specs.Lowering.{graph}
-use Rattle.pc_certificate.specs.Certificate.{condition_of}
+use Rattle.pc_program.specs.declared.program.Program.{Program}
+use Rattle.pc_syntax.specs.Spelling.{Spells}
+use Rattle.pc_certificate.specs.Certificate.{Certificate, condition_of}
+use Rattle.pc_cert.specs.CertificateTexts.{IsTextOf}
+use Rattle.pc_runner.specs.Scripts.{Choosing, script_of}
 use Rattle.pc_replay.specs.Accepts.{Accepts}
 use Rattle.pc_replay.specs.Rule.{ruling}
 use Rattle.pc_replay.specs.declared.ruling.Ruling.{Ruling}
@@ -12,6 +16,7 @@ use Rattle.pc_replay.proofs.Ruled.{rule_is_meant}
 use Rattle.pc_app.proofs.Programs.{accepted_programs_are_safe}
 use Rattle.pc_app.specs.declared.status.TheConstants.{DONE, FAILED}
 use Rattle.pc_app.specs.Rulings.{ruling_status, ruling_text}
+use Rattle.pc_app.specs.Verdicts.{verdict_text}
 use Rattle.pc_app.specs.Files.{OnFile}
 use Rattle.pc_app.specs.Inferred.{Inferred}
 use Rattle.pc_app.specs.Trials.{TrialAnswers}
@@ -80,39 +85,47 @@ module _ (held : Holding) (bytes : Bytes) (status : ℕ) (text : Bytes) (old new
       let a = r.2.quick in
       record { program = r.0; spelled = r.1; condition = a.condition; enough = a.enough; printed = is_written _ a.printed }
 
-  pub run_is_verdict : IsVerdict status → (script : Holding) → OnFile source_kind (OnRun script) held status text → OfBytes (λ of_script. PrintedVerdict bytes of_script status old new) script
-  run_is_verdict told script file =
-      let r = file_read source_kind (OnRun script) held bytes status text e (λ l. omega arith) (λ l. omega arith) file in
+  -- what was written of a program and a script that are read
+  ran : (p : Program) (of_script : Bytes) → Spells bytes p → (c : Choosing) × (script_of p.names.params of_script ≡ Ok c) × RunAnswers p c status text → PrintedVerdict bytes of_script status old new
+  ran p of_script spelled c = record {
+    program = p;
+    spelled = spelled;
+    choosing = c.0;
+    means = c.1;
+    verdict = c.2.verdict;
+    says = c.2.says;
+    status_is = c.2.status_is;
+    printed = is_written (verdict_text p.names.names (length c.0.choices) c.2.verdict) c.2.text_is;
+  }
+
+  run_of : IsVerdict status → (script : Holding) → (p : Program) × Spells bytes p × OnRun script p status text → OfBytes (λ of_script. PrintedVerdict bytes of_script status old new) script
+  run_of told script r =
       of_bytes (λ of_script. PrintedVerdict bytes of_script status old new) script
-      (λ of_script e'.
-      let c = file_read (script_kind r.0.names.params) (RunAnswers r.0) script of_script status text e' (λ l. omega arith) (λ l. omega arith) r.2 in
-      record {
-        program = r.0;
-        spelled = r.1;
-        choosing = c.0;
-        means = c.1;
-        verdict = c.2.verdict;
-        says = c.2.says;
-        status_is = c.2.status_is;
-        printed = is_written _ c.2.text_is;
-      })
+      (λ of_script e'. ran r.0 of_script r.1 (file_read (script_kind r.0.names.params) (RunAnswers r.0) script of_script status text e' (λ l. omega arith) (λ l. omega arith) r.2))
       (λ e'. of_nothing (script_kind r.0.names.params) (RunAnswers r.0) script status text e' r.2)
 
-  pub replay_is_ruling : IsRuling status → (certificate : Holding) → OnFile source_kind (OnReplay certificate) held status text → OfBytes (λ of_certificate. PrintedRuling bytes of_certificate status old new) certificate
-  replay_is_ruling told certificate file =
-      let r = file_read source_kind (OnReplay certificate) held bytes status text e (λ l. omega arith) (λ l. omega arith) file in
+  pub run_is_verdict : IsVerdict status → (script : Holding) → OnFile source_kind (OnRun script) held status text → OfBytes (λ of_script. PrintedVerdict bytes of_script status old new) script
+  run_is_verdict told script file = run_of told script (file_read source_kind (OnRun script) held bytes status text e (λ l. omega arith) (λ l. omega arith) file)
+
+  -- what was written of a program and a certificate that are read
+  replayed : (p : Program) (of_certificate : Bytes) → Spells bytes p → (c : Certificate) × IsTextOf of_certificate c × ReplayAnswers p c status text → PrintedRuling bytes of_certificate status old new
+  replayed p of_certificate spelled c = record {
+    program = p;
+    spelled = spelled;
+    claim = c.0;
+    is_text = c.1;
+    status_is = c.2.status_is;
+    printed = is_written (ruling_text p.names.names (condition_of c.0) (ruling (graph p) c.0)) c.2.text_is;
+  }
+
+  replay_of : IsRuling status → (certificate : Holding) → (p : Program) × Spells bytes p × OnReplay certificate p status text → OfBytes (λ of_certificate. PrintedRuling bytes of_certificate status old new) certificate
+  replay_of told certificate r =
       of_bytes (λ of_certificate. PrintedRuling bytes of_certificate status old new) certificate
-      (λ of_certificate e'.
-      let c = file_read certificate_kind (ReplayAnswers r.0) certificate of_certificate status text e' (λ l. omega arith) (λ l. omega arith) r.2 in
-      record {
-        program = r.0;
-        spelled = r.1;
-        claim = c.0;
-        is_text = c.1;
-        status_is = c.2.status_is;
-        printed = is_written _ c.2.text_is;
-      })
+      (λ of_certificate e'. replayed r.0 of_certificate r.1 (file_read certificate_kind (ReplayAnswers r.0) certificate of_certificate status text e' (λ l. omega arith) (λ l. omega arith) r.2))
       (λ e'. of_nothing certificate_kind (ReplayAnswers r.0) certificate status text e' r.2)
+
+  pub replay_is_ruling : IsRuling status → (certificate : Holding) → OnFile source_kind (OnReplay certificate) held status text → OfBytes (λ of_certificate. PrintedRuling bytes of_certificate status old new) certificate
+  replay_is_ruling told certificate file = replay_of told certificate (file_read source_kind (OnReplay certificate) held bytes status text e (λ l. omega arith) (λ l. omega arith) file)
 
 pub trial_is_told : (loops status : ℕ) (text : Bytes) (old new : Option Bytes) → TrialAnswers loops status text → Appended old new text → PrintedTrial loops old new
 trial_is_told loops status text old new a written =
