@@ -2,40 +2,35 @@
 
 ghost use Rattle.std.specs.Prelude.{◌≡◌, ◌<◌, true, IfOk};
 ghost use Rattle.pc_rows.specs.Substitution.{IsEnd, AreOrdered};
-ghost use Rattle.pc_rows.specs.declared.row.TheConstants.{VARIABLES};
 
 use crate::fault::Fault;
 use crate::numbers::number_of;
-use crate::rows::told;
-use crate::text::Text;
-use crate::texts::Texts;
-use pc_rows::Row;
+use crate::rows::push_made;
+use crate::texts::{line_in, row_in, variable_in};
+use pc_ports::Files;
+use pc_text::Text;
 use std::alloc::Global;
 
-/// The row before an assignment.
-pub fn substitute(alloc: Global, texts: &mut Texts) -> Result<Text, Fault> {
-    let variable = texts.variable(alloc, "variable")?;
-    let row = texts.row(alloc, "row")?;
-    let form = texts.row(alloc, "form")?;
-    before(alloc, texts, &row, variable, &form)
+/// The row before an assignment of a form, with the ends of a choice.
+pub fn substitute(alloc: Global, texts: &Files, text: &mut Text) -> Result<(), Fault> {
+    let variable = variable_in(texts, "variable")?;
+    let (low, high) = ends_in(texts)?;
+    let row = row_in(alloc, texts, "row")?;
+    let form = row_in(alloc, texts, "form")?;
+    push_made(text, pc_rows::substitute(&row, variable, &form, low, high))
 }
 
-/// The row before an assignment of this form, with the ends that the texts tell.
-fn before(
-    alloc: Global,
-    texts: &mut Texts,
-    row: &Row,
-    variable: u32,
-    form: &Row,
-) -> Result<Text, Fault>
-    requires { variable < VARIABLES }
+/// The ends of a choice, which are in order.
+fn ends_in(texts: &Files) -> Result<(Option<i128>, Option<i128>), Fault>
+    ensures { IfOk result (λ ends. IsEnd ends.0 × IsEnd ends.1 × AreOrdered ends.0 ends.1) }
 {
-    let low = end_of(texts.line(alloc, "low")?.as_str())?;
-    let high = end_of(texts.line(alloc, "high")?.as_str())?;
-    if !are_ordered(low, high) {
-        return Err(Fault::Number);
+    let low = end_of(line_in(texts, "low")?)?;
+    let high = end_of(line_in(texts, "high")?)?;
+    if are_ordered(low, high) {
+        Ok((low, high))
+    } else {
+        Err(Fault::Number)
     }
-    told(alloc, pc_rows::substitute(row, variable, form, low, high))
 }
 
 /// An end of a choice; a star is an open one.

@@ -1,53 +1,49 @@
 //! Elimination.
 
 use crate::fault::Fault;
-use crate::numbers::{push_number, system_of};
+use crate::numbers::{push_line, push_number, system_of};
 use crate::points::push_point;
-use crate::text::Text;
-use crate::texts::Texts;
+use crate::texts::{row_in, text_in};
 use pc_elim::Answer;
+use pc_ports::Files;
 use pc_rows::{Part, Proof, System};
+use pc_text::Text;
 use std::alloc::Global;
 
 /// The question whether the text `premises` shows the text `goal`.
-pub fn question(alloc: Global, texts: &mut Texts) -> Result<System, Fault> {
-    let goal = texts.row(alloc, "goal")?;
-    let premises = texts.bytes(alloc, "premises")?;
-    match String::from_utf8(premises) {
-        Ok(premises) => system_of(alloc, premises.as_str(), goal),
-        Err(_) => Err(Fault::Textless),
-    }
+pub fn question(alloc: Global, texts: &Files) -> Result<System, Fault> {
+    let premises = text_in(texts, "premises")?;
+    system_of(alloc, premises, row_in(alloc, texts, "goal")?)
 }
 
 /// What elimination answers.
-pub fn decide(alloc: Global, texts: &mut Texts) -> Result<Text, Fault> {
+pub fn decide(alloc: Global, texts: &Files, text: &mut Text) -> Result<(), Fault> {
     let system = question(alloc, texts)?;
-    settled(alloc, pc_elim::decide(alloc, &system)?)
+    push_answer(text, pc_elim::decide(alloc, &system)?)
 }
 
-/// A proof, a point, or `unsettled`.
-pub fn settled(alloc: Global, answer: Answer) -> Result<Text, Fault> {
-    let mut text = Text::new(alloc);
+/// Adds a proof, a point, or `unsettled`.
+pub fn push_answer(text: &mut Text, answer: Answer) -> Result<(), Fault> {
     match answer {
-        Answer::Shown(proof) => push_proof(alloc, &mut text, &proof)?,
-        Answer::Point(point) => push_point(alloc, &mut text, &point)?,
-        Answer::Unsettled => text.push_line("unsettled")?,
+        Answer::Shown(proof) => push_proof(text, &proof),
+        Answer::Point(point) => push_point(text, &point),
+        Answer::Unsettled => push_line(text, "unsettled"),
     }
-    Ok(text)
 }
 
 /// Adds a proof as a line: the goal's multiplier, and each premise with its own.
-pub fn push_proof(alloc: Global, text: &mut Text, proof: &Proof) -> Result<(), Fault> {
-    text.push(b"shown ")?;
-    push_number(alloc, text, true, proof.goal().get())?;
+pub fn push_proof(text: &mut Text, proof: &Proof) -> Result<(), Fault> {
+    text.push_all(b"shown")?;
+    push_number(text, proof.goal().get())?;
     let parts = proof.parts();
     for i in 0..parts.len() {
-        push_part(alloc, text, &parts.at(i))?;
+        push_part(text, parts.at(i))?;
     }
-    text.push(b"\n")
+    Ok(text.push(b'\n')?)
 }
 
 /// Adds a premise's number and its multiplier.
-fn push_part(alloc: Global, text: &mut Text, part: &Part) -> Result<(), Fault> {
-    text.push(format!(in alloc; " {} {}", part.index, part.multiplier.get())?.as_bytes())
+fn push_part(text: &mut Text, part: Part) -> Result<(), Fault> {
+    push_number(text, part.index as i128)?;
+    push_number(text, part.multiplier.get())
 }

@@ -1,34 +1,33 @@
 //! Candidates, and the lower widening.
 
 use crate::fault::Fault;
-use crate::graph::graph_of;
-use crate::numbers::push_rows;
-use crate::text::Text;
-use crate::texts::Texts;
+use crate::graph::graph_in;
+use crate::numbers::{push_line, push_rows};
+use crate::texts::{line_in, rows_in};
 use pc_lower::{CandidateFault, Mode};
+use pc_ports::Files;
 use pc_rows::Rows;
+use pc_text::Text;
 use std::alloc::Global;
 
 /// The rows that the candidate of the text `mode` gives to each point of the program that the text
 /// `source` spells; or `past`, or `full`.
-pub fn candidate(alloc: Global, texts: &mut Texts) -> Result<Text, Fault> {
-    let graph = graph_of(alloc, texts)?;
-    let mode = mode_of(texts.line(alloc, "mode")?.as_str())?;
-    let mut text = Text::new(alloc);
+pub fn candidate(alloc: Global, texts: &Files, text: &mut Text) -> Result<(), Fault> {
+    let mode = mode_of(line_in(texts, "mode")?)?;
+    let graph = graph_in(alloc, texts)?;
     match pc_lower::candidate(alloc, &graph, mode) {
-        Ok(annotation) => push_points(alloc, &mut text, annotation.as_slice())?,
-        Err(CandidateFault::Past) => text.push_line("past")?,
-        Err(CandidateFault::Full) => text.push_line("full")?,
-        Err(CandidateFault::NoMemory) => return Err(Fault::Memory),
+        Ok(annotation) => push_points(text, annotation.as_slice()),
+        Err(CandidateFault::Past) => push_line(text, "past"),
+        Err(CandidateFault::Full) => push_line(text, "full"),
+        Err(CandidateFault::NoMemory) => Err(Fault::Memory),
     }
-    Ok(text)
 }
 
 /// Adds the rows of each point.
-fn push_points(alloc: Global, text: &mut Text, annotation: &[Rows]) -> Result<(), Fault> {
+fn push_points(text: &mut Text, annotation: &[Rows]) -> Result<(), Fault> {
     for rows in annotation {
-        text.push_line("point")?;
-        push_rows(alloc, text, rows)?;
+        push_line(text, "point")?;
+        push_rows(text, rows)?;
     }
     Ok(())
 }
@@ -46,15 +45,9 @@ fn mode_of(name: &str) -> Result<Mode, Fault> {
 }
 
 /// The lower widening of `rows` by `others` in the round `number`.
-pub fn narrow(alloc: Global, texts: &mut Texts) -> Result<Text, Fault> {
-    let old = texts.rows(alloc, "rows")?;
-    let newer = texts.rows(alloc, "others")?;
-    let round = texts.line(alloc, "number")?.as_str().parse()?;
-    let mut text = Text::new(alloc);
-    push_rows(
-        alloc,
-        &mut text,
-        &pc_lower::narrow(alloc, &old, &newer, round)?,
-    )?;
-    Ok(text)
+pub fn narrow(alloc: Global, texts: &Files, text: &mut Text) -> Result<(), Fault> {
+    let round = line_in(texts, "number")?.parse()?;
+    let old = rows_in(alloc, texts, "rows")?;
+    let newer = rows_in(alloc, texts, "others")?;
+    push_rows(text, &pc_lower::narrow(alloc, &old, &newer, round)?)
 }

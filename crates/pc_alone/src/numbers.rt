@@ -5,8 +5,8 @@ ghost use Rattle.std.specs.Prelude.{◌<◌, ◌≤◌, IfOk};
 ghost use Rattle.pc_rows.specs.declared.row.TheConstants.{VARIABLES};
 
 use crate::fault::Fault;
-use crate::text::Text;
 use pc_rows::{Number, PREMISES, Row, Rows, System, VARIABLES};
+use pc_text::Text;
 use std::alloc::Global;
 
 /// The number that the text is.
@@ -72,27 +72,31 @@ pub fn system_of(alloc: Global, text: &str, goal: Row) -> Result<System, Fault> 
     Ok(system)
 }
 
-/// Adds a number, behind a space where it is not the first on its line.
-pub fn push_number(alloc: Global, text: &mut Text, first: bool, number: i128) -> Result<(), Fault> {
-    if !first {
-        text.push(b" ")?;
-    }
-    text.push(format!(in alloc; "{number}")?.as_bytes())
+/// Adds a line.
+pub fn push_line(text: &mut Text, line: &str) -> Result<(), Fault> {
+    text.push_all(line.as_bytes())?;
+    Ok(text.push(b'\n')?)
+}
+
+/// Adds a number behind a space.
+pub fn push_number(text: &mut Text, number: i128) -> Result<(), Fault> {
+    text.push(b' ')?;
+    Ok(text.push_number(number)?)
 }
 
 /// Adds a row as a line, up to its last coefficient that is not 0.
-pub fn push_row(alloc: Global, text: &mut Text, row: &Row) -> Result<(), Fault> {
-    push_number(alloc, text, true, row.constant())?;
+pub fn push_row(text: &mut Text, row: &Row) -> Result<(), Fault> {
+    text.push_number(row.constant())?;
     for variable in 0..width(row) {
-        push_number(alloc, text, false, row.coefficient(variable))?;
+        push_number(text, row.coefficient(variable))?;
     }
-    text.push(b"\n")
+    Ok(text.push(b'\n')?)
 }
 
 /// Adds each row as a line.
-pub fn push_rows(alloc: Global, text: &mut Text, rows: &Rows) -> Result<(), Fault> {
+pub fn push_rows(text: &mut Text, rows: &Rows) -> Result<(), Fault> {
     for i in 0..rows.len() {
-        push_row(alloc, text, rows.at(i))?;
+        push_row(text, rows.at(i))?;
     }
     Ok(())
 }

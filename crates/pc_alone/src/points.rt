@@ -4,20 +4,26 @@ ghost use Rattle.std.specs.Prelude.{◌≤◌};
 ghost use Rattle.pc_rows.specs.declared.row.TheConstants.{VARIABLES};
 
 use crate::fault::Fault;
-use crate::numbers::{number_of, push_number};
-use crate::rows::{said, told};
-use crate::text::Text;
-use crate::texts::Texts;
+use crate::numbers::{number_of, push_line, push_number};
+use crate::rows::push_word;
+use crate::texts::{line_in, row_in};
+use pc_ports::Files;
 use pc_rows::{Number, Past, Point, VARIABLES};
+use pc_text::Text;
 use std::alloc::Global;
 
 /// Whether a row is met at a point, or `past`.
-pub fn sign_at(alloc: Global, texts: &mut Texts) -> Result<Text, Fault> {
-    let point = point_of(texts.line(alloc, "point")?.as_str())?;
-    let row = texts.row(alloc, "row")?;
-    match pc_rows::sign_at(&row, &point) {
-        Some(met) => said(alloc, met),
-        None => told(alloc, Err(Past)),
+pub fn sign_at(alloc: Global, texts: &Files, text: &mut Text) -> Result<(), Fault> {
+    let point = point_of(line_in(texts, "point")?)?;
+    let row = row_in(alloc, texts, "row")?;
+    push_sign(text, pc_rows::sign_at(&row, &point))
+}
+
+/// Adds whether a row is met, or `past`.
+fn push_sign(text: &mut Text, met: Option<bool>) -> Result<(), Fault> {
+    match met {
+        Some(met) => push_word(text, met),
+        None => push_line(text, "past"),
     }
 }
 
@@ -57,13 +63,13 @@ fn with(point: Point, variable: u32, numerator: Number) -> Result<Point, Fault> 
 }
 
 /// Adds a point as a line: its denominator, and its numerators up to the last that is not 0.
-pub fn push_point(alloc: Global, text: &mut Text, point: &Point) -> Result<(), Fault> {
-    text.push(b"point ")?;
-    push_number(alloc, text, true, point.denominator())?;
+pub fn push_point(text: &mut Text, point: &Point) -> Result<(), Fault> {
+    text.push_all(b"point")?;
+    push_number(text, point.denominator())?;
     for variable in 0..last_of(point) {
-        push_number(alloc, text, false, point.numerator(variable))?;
+        push_number(text, point.numerator(variable))?;
     }
-    text.push(b"\n")
+    Ok(text.push(b'\n')?)
 }
 
 /// One more than the last variable that is not 0 at a point, and 0 where there is none.

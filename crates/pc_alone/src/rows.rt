@@ -1,93 +1,92 @@
 //! Rows and lists of rows.
 
 use crate::fault::Fault;
-use crate::numbers::{push_row, push_rows};
-use crate::text::Text;
-use crate::texts::Texts;
+use crate::numbers::{push_line, push_number, push_row, push_rows};
+use crate::texts::{number_in, row_in, rows_in, variable_in};
+use pc_ports::Files;
 use pc_rows::{Past, Row, RowsFault};
+use pc_text::Text;
 use std::alloc::Global;
 
 /// The sum of two rows.
-pub fn sum(alloc: Global, texts: &mut Texts) -> Result<Text, Fault> {
-    let (row, other) = two(alloc, texts)?;
-    told(alloc, row.sum(&other))
+pub fn sum(alloc: Global, texts: &Files, text: &mut Text) -> Result<(), Fault> {
+    let row = row_in(alloc, texts, "row")?;
+    let other = row_in(alloc, texts, "other")?;
+    push_made(text, row.sum(&other))
 }
 
 /// The difference of two rows.
-pub fn minus(alloc: Global, texts: &mut Texts) -> Result<Text, Fault> {
-    let (row, other) = two(alloc, texts)?;
-    told(alloc, row.minus(&other))
-}
-
-/// The two rows of a call.
-fn two(alloc: Global, texts: &mut Texts) -> Result<(Row, Row), Fault> {
-    let row = texts.row(alloc, "row")?;
-    Ok((row, texts.row(alloc, "other")?))
+pub fn minus(alloc: Global, texts: &Files, text: &mut Text) -> Result<(), Fault> {
+    let row = row_in(alloc, texts, "row")?;
+    let other = row_in(alloc, texts, "other")?;
+    push_made(text, row.minus(&other))
 }
 
 /// A multiple of a row.
-pub fn scaled(alloc: Global, texts: &mut Texts) -> Result<Text, Fault> {
-    let number = texts.number(alloc, "number")?;
-    told(alloc, texts.row(alloc, "row")?.scaled(number.get()))
+pub fn scaled(alloc: Global, texts: &Files, text: &mut Text) -> Result<(), Fault> {
+    let number = number_in(texts, "number")?;
+    let row = row_in(alloc, texts, "row")?;
+    push_made(text, row.scaled(number.get()))
 }
 
 /// The negation of a row.
-pub fn negated(alloc: Global, texts: &mut Texts) -> Result<Text, Fault> {
-    told(alloc, texts.row(alloc, "row")?.negated())
+pub fn negated(alloc: Global, texts: &Files, text: &mut Text) -> Result<(), Fault> {
+    let row = row_in(alloc, texts, "row")?;
+    push_made(text, row.negated())
 }
 
-/// A row, or `past`.
-pub fn told(alloc: Global, made: Result<Row, Past>) -> Result<Text, Fault> {
-    let mut text = Text::new(alloc);
+/// Adds a row that was made, or `past`.
+pub fn push_made(text: &mut Text, made: Result<Row, Past>) -> Result<(), Fault> {
     match made {
-        Ok(row) => push_row(alloc, &mut text, &row)?,
-        Err(Past) => text.push_line("past")?,
+        Ok(row) => push_row(text, &row),
+        Err(Past) => push_line(text, "past"),
     }
-    Ok(text)
 }
 
 /// A row with another coefficient at one variable.
-pub fn with(alloc: Global, texts: &mut Texts) -> Result<Text, Fault> {
-    let variable = texts.variable(alloc, "variable")?;
-    let coefficient = texts.number(alloc, "number")?;
-    let row = texts.row(alloc, "row")?;
-    told(alloc, Ok(row.with(variable, coefficient.get())))
+pub fn with(alloc: Global, texts: &Files, text: &mut Text) -> Result<(), Fault> {
+    let variable = variable_in(texts, "variable")?;
+    let coefficient = number_in(texts, "number")?;
+    let row = row_in(alloc, texts, "row")?;
+    push_row(text, &row.with(variable, coefficient.get()))
 }
 
 /// The terms of a row, one a line: the variable and its coefficient.
-pub fn terms(alloc: Global, texts: &mut Texts) -> Result<Text, Fault> {
-    let row = texts.row(alloc, "row")?;
-    let mut text = Text::new(alloc);
+pub fn terms(alloc: Global, texts: &Files, text: &mut Text) -> Result<(), Fault> {
+    let row = row_in(alloc, texts, "row")?;
+    push_terms(text, &row)
+}
+
+/// Adds the terms of a row.
+fn push_terms(text: &mut Text, row: &Row) -> Result<(), Fault> {
     for k in 0..row.terms() {
         let (variable, coefficient) = row.term(k);
-        text.push_line(format!(in alloc; "{variable} {coefficient}")?.as_str())?;
+        text.push_number(variable as i128)?;
+        push_number(text, coefficient)?;
+        text.push(b'\n')?;
     }
-    Ok(text)
+    Ok(())
 }
 
 /// Whether a row is covered by rows.
-pub fn covered(alloc: Global, texts: &mut Texts) -> Result<Text, Fault> {
-    let row = texts.row(alloc, "row")?;
-    let rows = texts.rows(alloc, "rows")?;
-    said(alloc, pc_rows::covered(&row, &rows))
+pub fn covered(alloc: Global, texts: &Files, text: &mut Text) -> Result<(), Fault> {
+    let row = row_in(alloc, texts, "row")?;
+    let rows = rows_in(alloc, texts, "rows")?;
+    push_word(text, pc_rows::covered(&row, &rows))
 }
 
-/// An answer of yes or no.
-pub fn said(alloc: Global, yes: bool) -> Result<Text, Fault> {
-    let mut text = Text::new(alloc);
-    text.push_line(if yes { "yes" } else { "no" })?;
-    Ok(text)
+/// Adds an answer of yes or no.
+pub fn push_word(text: &mut Text, yes: bool) -> Result<(), Fault> {
+    push_line(text, if yes { "yes" } else { "no" })
 }
 
 /// Two lists of rows in one, or `full`.
-pub fn join(alloc: Global, texts: &mut Texts) -> Result<Text, Fault> {
-    let rows = texts.rows(alloc, "rows")?;
-    let others = texts.rows(alloc, "others")?;
-    let mut text = Text::new(alloc);
+pub fn join(alloc: Global, texts: &Files, text: &mut Text) -> Result<(), Fault> {
+    let rows = rows_in(alloc, texts, "rows")?;
+    let others = rows_in(alloc, texts, "others")?;
     match pc_rows::join(&rows, &others) {
-        Ok(both) => push_rows(alloc, &mut text, &both)?,
-        Err(RowsFault::Full) => text.push_line("full")?,
-        Err(RowsFault::NoMemory) => return Err(Fault::Memory),
+        Ok(both) => push_rows(text, &both),
+        Err(RowsFault::Full) => push_line(text, "full"),
+        Err(RowsFault::NoMemory) => Err(Fault::Memory),
     }
-    Ok(text)
 }

@@ -1,34 +1,45 @@
 //! Tokens.
 
 use crate::fault::Fault;
-use crate::text::Text;
-use crate::texts::Texts;
-use pc_text::{Kind, LexFault};
+use crate::numbers::{push_line, push_number};
+use crate::texts::bytes_in;
+use pc_ports::Files;
+use pc_text::{Kind, LexFault, Text, Token};
 use std::alloc::Global;
 
 /// The tokens of the text `source`, one a line: what each is, and the bytes that it is made of.
-pub fn tokens(alloc: Global, texts: &mut Texts) -> Result<Text, Fault> {
-    let source = texts.bytes(alloc, "source")?;
-    let found = match pc_text::tokens(alloc, source.as_slice()) {
-        Ok(found) => found,
-        Err(LexFault::NoMemory) => return Err(Fault::Memory),
-        Err(_) => return Err(Fault::Textless),
-    };
-    let mut text = Text::new(alloc);
-    for token in found.as_slice() {
-        let kind = told(alloc, token.kind)?;
-        let line = format!(in alloc; "{}..{} {}", token.from, token.to, kind)?;
-        text.push_line(line.as_str())?;
+pub fn tokens(alloc: Global, texts: &Files, text: &mut Text) -> Result<(), Fault> {
+    match pc_text::tokens(alloc, bytes_in(texts, "source")?) {
+        Ok(found) => push_tokens(text, found.as_slice()),
+        Err(LexFault::NoMemory) => Err(Fault::Memory),
+        Err(_) => Err(Fault::Textless),
     }
-    Ok(text)
 }
 
-/// What a token is, in words.
-fn told(alloc: Global, kind: Kind) -> Result<String, Fault> {
-    Ok(match kind {
-        Kind::Keyword => String::from_str(alloc, "keyword")?,
-        Kind::Name => String::from_str(alloc, "name")?,
-        Kind::Sign => String::from_str(alloc, "sign")?,
-        Kind::Number(number) => format!(in alloc; "number {number}")?,
-    })
+/// Adds a line for each token.
+fn push_tokens(text: &mut Text, tokens: &[Token]) -> Result<(), Fault> {
+    for token in tokens {
+        text.push_number(token.from as i128)?;
+        text.push_all(b"..")?;
+        text.push_number(token.to as i128)?;
+        push_kind(text, token.kind)?;
+    }
+    Ok(())
+}
+
+/// Adds what a token is, in words.
+fn push_kind(text: &mut Text, kind: Kind) -> Result<(), Fault> {
+    match kind {
+        Kind::Keyword => push_line(text, " keyword"),
+        Kind::Name => push_line(text, " name"),
+        Kind::Sign => push_line(text, " sign"),
+        Kind::Number(number) => push_numeral(text, number),
+    }
+}
+
+/// Adds that a token is a number, and which.
+fn push_numeral(text: &mut Text, number: i128) -> Result<(), Fault> {
+    text.push_all(b" number")?;
+    push_number(text, number)?;
+    Ok(text.push(b'\n')?)
 }

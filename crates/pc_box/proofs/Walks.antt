@@ -1,5 +1,5 @@
 -- The value of a row at a state, as the sum over the row's terms.
-use Rattle.std.proofs.Common.{◌≡◌, ◌≢◌, ◌∙◌, ℕ, suc, ◌+◌, ℤ, pos, ◌+ℤ◌, ◌*ℤ◌, Bool, true, false, cond, List, [], ◌∷◌, get_or, refl, sym, ap, arith}
+use Rattle.std.proofs.Common.{◌≡◌, ◌≢◌, ◌∙◌, ℕ, zero, suc, ◌+◌, ℤ, pos, ◌+ℤ◌, ◌*ℤ◌, Bool, true, false, cond, List, [], ◌∷◌, drop, get_or, refl, ap, arith}
 use Rattle.std.specs.List.{AllByRecursion as Each}
 use Rattle.std.proofs.lemmas.Int.{ints}
 use Rattle.std.proofs.Math.IntN.{zero-*ℤ, *ℤ-zero, +ℤ_idr}
@@ -8,51 +8,46 @@ use Rattle.pc_rows.specs.Readers.{terms_from, terms_of, sum_over}
 use Rattle.pc_rows.proofs.Lists.{zero_is}
 use Rattle.pc_rows.proofs.Tests.{not_zero}
 
--- the numbers of the one list are those of the other from place v on
-abbrev IsFrom : ℕ → List ℤ → List ℤ → Type 0
-IsFrom v rest xs = (k : ℕ) → get_or rest k (pos 0) ≡ get_or xs (v + k) (pos 0)
+dot_nothing : (cs : List ℤ) → dot cs [] ≡ pos 0
+dot_nothing [] = refl
+dot_nothing (c ∷ cs) = refl
 
-at_first : (v : ℕ) (rest xs : List ℤ) → IsFrom v rest xs → get_or xs v (pos 0) ≡ get_or rest 0 (pos 0)
-at_first v rest xs from = let e : v ≡ v + 0 = omega arith in ap (λ (n : ℕ). get_or xs n (pos 0)) e ∙ sym (from 0)
+dot_past : (c : ℤ) (cs : List ℤ) → pos 0 ≡ c *ℤ pos 0 +ℤ dot cs []
+dot_past c cs =
+    let none = *ℤ-zero c in
+    let rest = dot_nothing cs in
+    omega (arith, ints)
 
-from_next : (v : ℕ) (x : ℤ) (rest xs : List ℤ) → IsFrom v (x ∷ rest) xs → IsFrom (v + 1) rest xs
-from_next v x rest xs from k = let e : v + suc k ≡ v + 1 + k = omega arith in from (suc k) ∙ ap (λ (n : ℕ). get_or xs n (pos 0)) e
+-- the sum from place v on begins with the product at v; behind the end of the state all values are 0
+dot_at : (v : ℕ) (c : ℤ) (cs xs : List ℤ) → dot (c ∷ cs) (drop v xs) ≡ c *ℤ get_or xs v (pos 0) +ℤ dot cs (drop (suc v) xs)
+dot_at zero c cs [] = dot_past c cs
+dot_at (suc v) c cs [] = dot_past c cs
+dot_at zero c cs (x ∷ xs) = refl
+dot_at (suc v) c cs (x ∷ xs) = dot_at v c cs xs
 
-from_none : (v : ℕ) (xs : List ℤ) → IsFrom v [] xs → IsFrom (v + 1) [] xs
-from_none v xs from k = let e : v + suc k ≡ v + 1 + k = omega arith in from (suc k) ∙ ap (λ (n : ℕ). get_or xs n (pos 0)) e
-
--- behind the end of the state all values are 0
-idle : (v : ℕ) (sum : ℤ) (cs xs : List ℤ) → IsFrom v [] xs → sum_over sum (terms_from v cs) xs ≡ sum
-idle v sum [] xs from = refl
-idle v sum (c ∷ cs) xs from = by (is_zero c) (idle (v + 1) sum cs xs (from_none v xs from))
+walk : (v : ℕ) (sum : ℤ) (cs xs : List ℤ) → sum +ℤ dot cs (drop v xs) ≡ sum_over sum (terms_from v cs) xs
+walk v sum [] xs = +ℤ_idr sum
+walk v sum (c ∷ cs) xs = by (is_zero c) refl (λ s. walk (v + 1) s cs xs)
   where
-    here : sum +ℤ c *ℤ get_or xs v (pos 0) ≡ sum
-    here = ap (λ (z : ℤ). sum +ℤ c *ℤ z) (at_first v [] xs from) ∙ ap (λ (z : ℤ). sum +ℤ z) (*ℤ-zero c) ∙ +ℤ_idr sum
+    here : dot (c ∷ cs) (drop v xs) ≡ c *ℤ get_or xs v (pos 0) +ℤ dot cs (drop (v + 1) xs)
+    here =
+        let e : suc v ≡ v + 1 = omega arith in
+        dot_at v c cs xs ∙ ap (λ (n : ℕ). c *ℤ get_or xs v (pos 0) +ℤ dot cs (drop n xs)) e
 
-    by : (b : Bool) → sum_over sum (terms_from (v + 1) cs) xs ≡ sum → sum_over sum (cond b (terms_from (v + 1) cs) ((v, c) ∷ terms_from (v + 1) cs)) xs ≡ sum
-    by true go = go
-    by false go = ap (λ (z : ℤ). sum_over z (terms_from (v + 1) cs) xs) here ∙ go
-
-walk : (v : ℕ) (sum : ℤ) (cs rest xs : List ℤ) → IsFrom v rest xs → sum +ℤ dot cs rest ≡ sum_over sum (terms_from v cs) xs
-walk v sum [] rest xs from = +ℤ_idr sum
-walk v sum (c ∷ cs) [] xs from = +ℤ_idr sum ∙ sym (idle v sum (c ∷ cs) xs from)
-walk v sum (c ∷ cs) (x ∷ rest) xs from = by (is_zero c) refl (λ s. walk (v + 1) s cs rest xs (from_next v x rest xs from))
-  where
-    here : get_or xs v (pos 0) ≡ x
-    here = at_first v (x ∷ rest) xs from
-
-    by : (b : Bool) → is_zero c ≡ b → ((s : ℤ) → s +ℤ dot cs rest ≡ sum_over s (terms_from (v + 1) cs) xs) →
-        sum +ℤ (c *ℤ x +ℤ dot cs rest) ≡ sum_over sum (cond b (terms_from (v + 1) cs) ((v, c) ∷ terms_from (v + 1) cs)) xs
+    by : (b : Bool) → is_zero c ≡ b → ((s : ℤ) → s +ℤ dot cs (drop (v + 1) xs) ≡ sum_over s (terms_from (v + 1) cs) xs) →
+        sum +ℤ dot (c ∷ cs) (drop v xs) ≡ sum_over sum (cond b (terms_from (v + 1) cs) ((v, c) ∷ terms_from (v + 1) cs)) xs
     by true e go =
-        let none : c *ℤ x ≡ pos 0 = ap (λ (z : ℤ). z *ℤ x) (zero_is c e) ∙ zero-*ℤ x in
+        let none : c *ℤ get_or xs v (pos 0) ≡ pos 0 = ap (λ (z : ℤ). z *ℤ get_or xs v (pos 0)) (zero_is c e) ∙ zero-*ℤ (get_or xs v (pos 0)) in
+        let first = here in
         let whole = go sum in
         omega (arith, ints)
     by false e go =
-        let part : sum +ℤ (c *ℤ x +ℤ dot cs rest) ≡ (sum +ℤ c *ℤ x) +ℤ dot cs rest = omega (arith, ints) in
-        part ∙ go (sum +ℤ c *ℤ x) ∙ ap (λ (z : ℤ). sum_over (sum +ℤ c *ℤ z) (terms_from (v + 1) cs) xs) (sym here)
+        let first = here in
+        let part : sum +ℤ dot (c ∷ cs) (drop v xs) ≡ (sum +ℤ c *ℤ get_or xs v (pos 0)) +ℤ dot cs (drop (v + 1) xs) = omega (arith, ints) in
+        part ∙ go (sum +ℤ c *ℤ get_or xs v (pos 0))
 
 pub value_is_walk : (r : Linear) (s : State) → value r s ≡ sum_over r.constant (terms_of r) s
-value_is_walk r s = walk 0 r.constant r.coefficients s s (λ k. let e : k ≡ 0 + k = omega arith in ap (λ (n : ℕ). get_or s n (pos 0)) e)
+value_is_walk r s = walk 0 r.constant r.coefficients s
 
 -- the coefficients of the terms are not 0
 terms_count : (v : ℕ) (cs : List ℤ) → Each (λ t. t.1 ≢ pos 0) (terms_from v cs)

@@ -1,7 +1,9 @@
 //! Blocks: a title, what is called, the texts that it is about, and what it prints.
 
 use crate::call::{Call, Outcome};
-use pc_alone::{Fault, Text, bytes_of, parted};
+use crate::files::bytes_of;
+use crate::text::{Text, parted};
+use pc_alone::Fault;
 use pc_ports::Store;
 use std::alloc::Global;
 use std::mem;

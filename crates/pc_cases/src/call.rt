@@ -1,6 +1,7 @@
 //! Calls over memory.
 
-use pc_alone::{Fault, Text, Texts, answer};
+use crate::text::Text;
+use pc_alone::{Fault, answer};
 use pc_app::serve;
 use pc_ports::{Calls, Files, MemorySink, MemoryStore, put_all};
 use std::alloc::Global;
@@ -113,19 +114,37 @@ impl Call {
         if most == 0 {
             return Err(Fault::Number);
         }
-        let mut store = MemoryStore::new(files, failing_reads);
         let mut sink = MemorySink::new(alloc, room, most, failing_writes)?;
         let status = match called {
-            Called::Program(words) => serve(alloc, words.as_slice(), &mut store, &mut sink),
-            Called::Alone(name) => {
-                let text = answer(alloc, name.as_str(), &mut Texts::new(store))?;
-                match put_all(&mut sink, text.into_bytes().as_slice()) {
-                    Ok(()) => 0,
-                    Err(_) => WRITE_FAILED,
-                }
+            Called::Program(words) => {
+                let mut store = MemoryStore::new(files, failing_reads);
+                program(alloc, words.as_slice(), &mut store, &mut sink)
             }
+            Called::Alone(name) => alone(alloc, name.as_str(), &files, &failing_reads, &mut sink)?,
         };
         let text = Vec::from_slice(alloc, sink.written())?;
         Ok(Outcome { status, text })
+    }
+}
+
+/// Calls the whole program. Nothing is asked of what it answers here: the cases ask it.
+fn program(alloc: Global, words: &[String], store: &mut MemoryStore, sink: &mut MemorySink) -> u8 {
+    serve(alloc, words, store, sink)
+}
+
+/// Makes the call of this name by itself, which reads no store, and writes what it answers.
+fn alone(
+    alloc: Global,
+    name: &str,
+    files: &Files,
+    failing_reads: &Calls,
+    sink: &mut MemorySink,
+) -> Result<u8, Fault> {
+    if failing_reads.len() != 0 {
+        return Err(Fault::Directive);
+    }
+    match put_all(sink, answer(alloc, name, files)?.bytes()) {
+        Ok(()) => Ok(0),
+        Err(_) => Ok(WRITE_FAILED),
     }
 }

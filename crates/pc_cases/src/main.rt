@@ -8,6 +8,7 @@ mod call;
 mod files;
 mod reader;
 mod report;
+mod text;
 
 use crate::files::text_of;
 use crate::reader::{cases_of, is_aside};

@@ -6,13 +6,10 @@ use Rattle.pc_rows.proofs.Joining.{at_most_is}
 use Rattle.pc_rows.proofs.Only.{first_is_over}
 use Rattle.pc_facts.specs.Lines.{is_over, shown}
 
-over_is : (n : ℕ) (r : Linear) → is_over n r ≡ true → IsOver n r
-over_is n r h v le = sym (ap (λ (cs : List ℤ). slice_index_or cs v (pos 0)) (at_most_is (first_of n r) r h).0) ∙ first_is_over n r v le
-
 pub shown_are_over : (n : ℕ) (rows : List Linear) → Each (IsOver n) (shown n rows)
 shown_are_over n [] = tt
 shown_are_over n (r ∷ rows) = by (is_over n r) refl (shown_are_over n rows)
   where
     by : (b : Bool) → is_over n r ≡ b → Each (IsOver n) (shown n rows) → Each (IsOver n) (cond b (r ∷ shown n rows) (shown n rows))
-    by true e go = (over_is n r e, go)
+    by true e go = ((λ v le. sym (ap (λ (cs : List ℤ). slice_index_or cs v (pos 0)) (at_most_is (first_of n r) r e).0) ∙ first_is_over n r v le), go)
     by false e go = go

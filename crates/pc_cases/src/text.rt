@@ -1,6 +1,6 @@
 //! Texts that are told line by line, and changed.
 
-use crate::fault::Fault;
+use pc_alone::Fault;
 use std::alloc::Global;
 
 /// A text.
