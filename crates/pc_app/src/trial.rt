@@ -61,7 +61,7 @@ fn told(alloc: Global, loops: u32, source: &[u8], program: &Program) -> Result<T
     let certificate = certificate_of(alloc, program)?;
     let summary = summary_of(alloc, loops, source, program, &certificate)?;
     let mut text = Text::new(alloc);
-    push_summary(&mut text, summary)?;
+    push_summary(alloc, &mut text, summary)?;
     text.push_all(show_condition(alloc, &certificate, &program.names)?.bytes())?;
     Ok(text)
 }

@@ -1,10 +1,11 @@
 //! The line that tells how large a made source is, and what came out.
 
-ghost use Rattle.std.specs.Prelude.{◌≡◌, ◌++◌, OnOk};
+ghost use Rattle.std.specs.Prelude.{◌≡◌, ◌++◌, OnOk, OnErr, IfOk};
 ghost use Rattle.pc_gen.specs.Summary.{size_text, summary_text};
 
 use crate::pieces::push_counted;
 use pc_text::{NoMemory, Text};
+use std::alloc::Global;
 
 /// What is told of a made source.
 #[derive(Clone, Copy, Debug)]
@@ -21,13 +22,25 @@ pub struct Summary {
     pub alternatives: usize,
 }
 
-/// Adds the line of a summary.
-pub fn push_summary(text: &mut Text, summary: Summary) -> Result<(), NoMemory>
-    ensures { OnOk result (text.new ≡ text.old ++ summary_text summary) }
+/// The line of a summary.
+fn line_of(alloc: Global, summary: Summary) -> Result<Text, NoMemory>
+    ensures { IfOk result (λ text. text ≡ summary_text summary) }
 {
-    push_counted(text, b"trial ", summary.loops as usize, b": ")?;
-    push_size(text, summary)?;
-    push_counted(text, b"", summary.alternatives, b" alternatives\n")
+    let mut text = Text::new(alloc);
+    push_counted(&mut text, b"trial ", summary.loops as usize, b": ")?;
+    push_size(&mut text, summary)?;
+    push_counted(&mut text, b"", summary.alternatives, b" alternatives\n")?;
+    Ok(text)
+}
+
+/// Adds the line of a summary. Where memory is wanting, the text stays as it was.
+pub fn push_summary(alloc: Global, text: &mut Text, summary: Summary) -> Result<(), NoMemory>
+    ensures added { OnOk result (text.new ≡ text.old ++ summary_text summary) }
+    ensures unchanged { OnErr result (text.new ≡ text.old) }
+{
+    // The line is built apart, so that a push that fails half way leaves `text` alone.
+    let line = line_of(alloc, summary)?;
+    text.push_all(line.bytes())
 }
 
 /// Adds how large the source is.
