@@ -10,23 +10,27 @@ use Rattle.pc_rows.specs.Linear.{Linear}
 use Rattle.pc_rows.specs.Evidence.{Proof, IsProof}
 use Rattle.pc_text.specs.Bytes.{Bytes}
 use Rattle.pc_certificate.specs.declared.certificate.Annotated.{Annotated}
-use Rattle.pc_cert.specs.declared.sizes.Sizes.{Sizes}
+use Rattle.pc_lines.specs.declared.sizes.Sizes.{Sizes}
 use Rattle.pc_certificate.specs.declared.certificate.TheConstants.{ALTERNATIVES}
 use Rattle.pc_text.specs.Words.{Words}
-use Rattle.pc_cert.specs.Forms.{is_word}
-use Rattle.pc_cert.specs.Faults.{Row, Point, Edge, Next, Proof as ProofLine}
-use Rattle.pc_cert.specs.Readers.{◌>>=◌, Unread, repeated, row_value, proof_value, row_reader, point_reader, proof_reader, edge_reader, annotated_reader, goes_on, begins}
-use Rattle.pc_cert.specs.CertificateTexts.{counts, row_line, proof_line, point_lines, edge_lines, numbered}
+use Rattle.pc_text.specs.Words.{words}
+use Rattle.pc_lines.specs.Forms.{is_just}
+use Rattle.pc_lines.specs.Kinds.{head, row, proof}
+use Rattle.pc_cert.specs.Faults.{is_end, next}
+use Rattle.pc_lines.specs.Readers.{◌>>=◌, Unread, repeated, row_value, proof_value, row_reader, proof_reader}
+use Rattle.pc_cert.specs.Readers.{point_reader, edge_reader, annotated_reader, goes_on, begins}
+use Rattle.pc_lines.specs.Texts.{counts, row_line, proof_line, numbered}
+use Rattle.pc_cert.specs.CertificateTexts.{point_lines, edge_lines}
 use Rattle.pc_text.proofs.WordLists.{joined}
-use Rattle.pc_cert.proofs.NamedLines.{word_is}
+use Rattle.pc_lines.proofs.NamedLines.{just_is}
 use Rattle.pc_text.proofs.PlainWords.{IsPlain, ArePlain}
-use Rattle.pc_cert.proofs.Spelled.{IsSpelled}
-use Rattle.pc_cert.proofs.RowSpelling.{IsRowOver, row_spelled}
-use Rattle.pc_cert.proofs.ProofSpelling.{proof_spelled}
-use Rattle.pc_cert.proofs.HeadSpelling.{point_spelled, edge_spelled}
-use Rattle.pc_cert.proofs.LineReading.{AreTaken, ReadsLines, ok_same, give, line_reads}
-use Rattle.pc_cert.proofs.ListReading.{bind_ok, taken_both, lines_both, AreGood, AreFew, repeated_reads, headed_reads}
-use Rattle.pc_cert.proofs.EndedLines.{unread_of}
+use Rattle.pc_lines.proofs.Spelled.{IsSpelled}
+use Rattle.pc_lines.proofs.RowSpelling.{IsRowOver, row_spelled}
+use Rattle.pc_lines.proofs.ProofSpelling.{IsProofOf, proof_spelled}
+use Rattle.pc_lines.proofs.HeadSpelling.{head_spelled}
+use Rattle.pc_lines.proofs.LineReading.{AreTaken, ReadsLines, ok_same, give, line_reads}
+use Rattle.pc_lines.proofs.ListReading.{bind_ok, taken_both, lines_both, AreGood, AreFew, repeated_reads, headed_reads}
+use Rattle.pc_lines.proofs.EndedLines.{unread_of}
 
 -- ---- points and edges
 
@@ -34,17 +38,23 @@ abbrev pub IsPoint : ℕ → List Linear → Type 0
 IsPoint v = AreFew (IsRowOver v) ROWS
 
 abbrev pub IsEdge : List Proof → Type 0
-IsEdge = AreFew IsProof PREMISES
+IsEdge = AreFew (IsProofOf PREMISES) PREMISES
+
+pub point_plain : IsPlain (codes "point")
+point_plain = (omega arith, (omega arith, (omega arith, (omega arith, (omega arith, tt)))))
+
+pub edge_plain : IsPlain (codes "edge")
+edge_plain = (omega arith, (omega arith, (omega arith, (omega arith, tt))))
 
 pub point_reads : (v : ℕ) → v ≤ VARIABLES → (p : ℕ) → ReadsLines (point_reader v p) (point_lines v p) (IsPoint v)
 point_reads v most p =
-    headed_reads (Point v p) (λ k. counts (codes "point") (p ∷ k ∷ [])) ROWS (point_spelled v p) (row_reader v) (row_line v) (IsRowOver v)
-    (line_reads (Row v) (row_value v) (row_line v) (IsRowOver v) (row_spelled v most))
+    headed_reads (head (codes "point") p ROWS) (λ k. counts (codes "point") (p ∷ k ∷ [])) ROWS (head_spelled (codes "point") point_plain p ROWS) (row_reader v) (row_line v) (IsRowOver v)
+    (line_reads (row v) (row_value v) (row_line v) (IsRowOver v) (row_spelled v most))
 
 pub edge_reads : (e : ℕ) → ReadsLines (edge_reader e) (edge_lines e) IsEdge
 edge_reads e =
-    headed_reads (Edge e) (λ k. counts (codes "edge") (e ∷ k ∷ [])) PREMISES (edge_spelled e) proof_reader proof_line IsProof
-    (line_reads ProofLine proof_value proof_line IsProof proof_spelled)
+    headed_reads (head (codes "edge") e PREMISES) (λ k. counts (codes "edge") (e ∷ k ∷ [])) PREMISES (head_spelled (codes "edge") edge_plain e PREMISES) (proof_reader PREMISES) proof_line (IsProofOf PREMISES)
+    (line_reads (proof PREMISES) proof_value proof_line (IsProofOf PREMISES) (proof_spelled PREMISES (omega arith)))
 
 -- ---- what stands behind the beginning of an alternative
 
@@ -108,10 +118,10 @@ next_line more = cond more (codes "alternative" ∷ []) (codes "end" ∷ [])
 abbrev pub HasRoom : ℕ → Bool → Type 0
 HasRoom n more = more ≡ true → n < ALTERNATIVES
 
-next_by : (n : ℕ) (ws : Words) (t : Bool) → is_word (codes "end") ws ≡ t → (is_word (codes "alternative") ws || t) ≡ true → (t || ltb n ALTERNATIVES) ≡ true →
+next_by : (n : ℕ) (ws : Words) (t : Bool) → is_end ws ≡ t → (is_just (words (codes "alternative")) ws || t) ≡ true → (t || ltb n ALTERNATIVES) ≡ true →
     HasRoom n (not t) × (next_line (not t) ≡ ws)
-next_by n ws true e h k = (λ f. absurd (cc), sym (word_is (codes "end") ws e))
-next_by n ws false e h k = (λ f. ltb-true n ALTERNATIVES k, sym (word_is (codes "alternative") ws (or_false (is_word (codes "alternative") ws) h)))
+next_by n ws true e h k = (λ f. absurd (cc), sym (just_is (words (codes "end")) ws e))
+next_by n ws false e h k = (λ f. ltb-true n ALTERNATIVES k, sym (just_is (words (codes "alternative")) ws (or_false (is_just (words (codes "alternative")) ws) h)))
   where
     or_false : (b : Bool) → (b || false) ≡ true → b ≡ true
     or_false true h = refl
@@ -127,11 +137,11 @@ next_plain : (more : Bool) → ArePlain (next_line more)
 next_plain true = ((alternative_plain, tt), refl)
 next_plain false = ((end_plain, tt), refl)
 
-next_form : (more : Bool) → (is_word (codes "alternative") (next_line more) || is_word (codes "end") (next_line more)) ≡ true
+next_form : (more : Bool) → (is_just (words (codes "alternative")) (next_line more) || is_end (next_line more)) ≡ true
 next_form true = refl
 next_form false = refl
 
-next_rules : (n : ℕ) (more : Bool) → HasRoom n more → (is_word (codes "end") (next_line more) || ltb n ALTERNATIVES) ≡ true
+next_rules : (n : ℕ) (more : Bool) → HasRoom n more → (is_end (next_line more) || ltb n ALTERNATIVES) ≡ true
 next_rules n true h = lt-ltb n ALTERNATIVES (h refl)
 next_rules n false h = refl
 
@@ -139,14 +149,11 @@ next_forth : (more : Bool) → goes_on (next_line more) ≡ more
 next_forth true = refl
 next_forth false = refl
 
-pub next_spelled : (z : Sizes) (n : ℕ) → IsSpelled (Next z n) goes_on next_line (HasRoom n)
-next_spelled z n = record {
-  back = λ ws h k. next_by n ws (is_word (codes "end") ws) refl h k;
+pub begins_reads : (n : ℕ) → ReadsLines (begins n) (λ more. next_line more ∷ []) (HasRoom n)
+begins_reads n = line_reads (next n) goes_on next_line (HasRoom n) (record {
+  back = λ ws h k. next_by n ws (is_end ws) refl h k;
   plain = λ more h. next_plain more;
   form = λ more h. next_form more;
   rules = next_rules n;
   forth = λ more h. next_forth more;
-}
-
-pub begins_reads : (z : Sizes) (n : ℕ) → ReadsLines (begins z n) (λ more. next_line more ∷ []) (HasRoom n)
-begins_reads z n = line_reads (Next z n) goes_on next_line (HasRoom n) (next_spelled z n)
+})

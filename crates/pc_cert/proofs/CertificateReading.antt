@@ -5,28 +5,30 @@ use Rattle.std.specs.List.{flat_map}
 use Rattle.pc_text.specs.Bytes.{Bytes}
 use Rattle.pc_rows.specs.declared.row.TheConstants.{VARIABLES}
 use Rattle.pc_certificate.specs.declared.certificate.Annotated.{Annotated}
-use Rattle.pc_cert.specs.declared.sizes.Sizes.{Sizes}
+use Rattle.pc_lines.specs.declared.sizes.Sizes.{Sizes}
 use Rattle.pc_certificate.specs.declared.certificate.TheConstants.{ALTERNATIVES}
-use Rattle.pc_cert.specs.declared.fault.CertFault.{CertFault}
+use Rattle.pc_lines.specs.declared.fault.CertFault.{CertFault}
 use Rattle.pc_text.specs.Words.{Words}
-use Rattle.pc_cert.specs.Readers.{◌>>=◌, Unread, annotated_reader, begins, alternatives_reader}
-use Rattle.pc_cert.specs.CertificateTexts.{point_lines, edge_lines, numbered, alternative_lines}
+use Rattle.pc_lines.specs.Readers.{◌>>=◌, Unread}
+use Rattle.pc_cert.specs.Readers.{annotated_reader, begins, alternatives_reader}
+use Rattle.pc_lines.specs.Texts.{numbered}
+use Rattle.pc_cert.specs.CertificateTexts.{point_lines, edge_lines, alternative_lines}
 use Rattle.pc_text.proofs.WordLists.{joined}
-use Rattle.pc_cert.proofs.LineReading.{AreTaken, ReadsLines, ok_same, give}
-use Rattle.pc_cert.proofs.ListReading.{bind_ok, taken_both, lines_both, AreFew}
+use Rattle.pc_lines.proofs.LineReading.{AreTaken, ReadsLines, ok_same, give}
+use Rattle.pc_lines.proofs.ListReading.{bind_ok, taken_both, lines_both, AreFew}
 use Rattle.pc_cert.proofs.AlternativeReading.{IsWhole, annotated_reads, next_line, begins_reads}
-use Rattle.pc_cert.proofs.EndedLines.{unread_of}
+use Rattle.pc_lines.proofs.EndedLines.{unread_of}
 
 -- ---- alternatives, and the end
 
 unfoldable pub read_one : Sizes → ℕ → ℕ → Bool × Unread → Result (List Annotated × Unread) CertFault
 read_one z n k more = cond more.0 (annotated_reader z more.1 >>= (λ a. alternatives_reader z (n + 1) k a.1 >>= (λ others. give others.1 (a.0 ∷ others.0)))) (give more.1 [])
 
-pub none_is : (z : Sizes) (n : ℕ) (s : Unread) → alternatives_reader z n zero s ≡ (begins z n s >>= (λ more. give more.1 []))
+pub none_is : (z : Sizes) (n : ℕ) (s : Unread) → alternatives_reader z n zero s ≡ (begins n s >>= (λ more. give more.1 []))
 unfolding alternatives_reader
 none_is z n s = refl
 
-pub one_is : (z : Sizes) (n k : ℕ) (s : Unread) → alternatives_reader z n (suc k) s ≡ (begins z n s >>= read_one z n k)
+pub one_is : (z : Sizes) (n k : ℕ) (s : Unread) → alternatives_reader z n (suc k) s ≡ (begins n s >>= read_one z n k)
 unfolding alternatives_reader read_one
 one_is z n k s = refl
 
@@ -80,14 +82,14 @@ module _ (z : Sizes) (most : z.variables ≤ VARIABLES) where
   alternatives_sound : (k n : ℕ) → n + k ≡ ALTERNATIVES → (s after : Unread) (all : List Annotated) → alternatives_reader z n k s ≡ Ok (all, after) →
       AreFew (IsWhole z) k all × AreTaken (alternatives_lines z.variables all) s after
   alternatives_sound zero n room s after all e =
-      let first = bind_ok (Bool × Unread) (List Annotated × Unread) (begins z n s) (λ more. give more.1 []) (all, after) (sym (none_is z n s) ∙ e) in
+      let first = bind_ok (Bool × Unread) (List Annotated × Unread) (begins n s) (λ more. give more.1 []) (all, after) (sym (none_is z n s) ∙ e) in
       let more = first.0 in
-      let line = (begins_reads z n).sound s more.1 more.0 first.1 in
+      let line = (begins_reads n).sound s more.1 more.0 first.1 in
       last_sound n room s more.0 more.1 after all line.0 line.1 first.2
   alternatives_sound (suc k) n room s after all e =
-      let first = bind_ok (Bool × Unread) (List Annotated × Unread) (begins z n s) (read_one z n k) (all, after) (sym (one_is z n k s) ∙ e) in
+      let first = bind_ok (Bool × Unread) (List Annotated × Unread) (begins n s) (read_one z n k) (all, after) (sym (one_is z n k s) ∙ e) in
       let more = first.0 in
-      let line = (begins_reads z n).sound s more.1 more.0 first.1 in
+      let line = (begins_reads n).sound s more.1 more.0 first.1 in
       one_sound k n room s more.0 more.1 after all line.1 first.2 (alternatives_sound k (n + 1))
 
   -- the lines of an alternative and of others behind it
@@ -101,16 +103,16 @@ module _ (z : Sizes) (most : z.variables ≤ VARIABLES) where
       (l : ℕ) × (alternatives_reader z n k (unread_of m (map joined (alternatives_lines z.variables all) ++ rest) tail) ≡ Ok (all, unread_of l rest tail))
   unfolding read_one
   alternatives_complete zero n room [] h m rest tail =
-      let one = (begins_reads z n).complete false (λ e. absurd (cc)) m rest tail in
+      let one = (begins_reads n).complete false (λ e. absurd (cc)) m rest tail in
       (one.0, none_is z n _ ∙ ap (λ t. t >>= (λ more. give more.1 [])) one.1)
   alternatives_complete zero n room (a ∷ as') h m rest tail = let few = h.few in absurd (omega arith)
   alternatives_complete (suc k) n room [] h m rest tail =
-      let one = (begins_reads z n).complete false (λ e. absurd (cc)) m rest tail in
+      let one = (begins_reads n).complete false (λ e. absurd (cc)) m rest tail in
       (one.0, one_is z n k _ ∙ ap (λ t. t >>= read_one z n k) one.1)
   alternatives_complete (suc k) n room (a ∷ as') h m rest tail =
       let few = h.few in
       let behind = map joined (alternatives_lines z.variables as') ++ rest in
-      let one = (begins_reads z n).complete true (λ e. omega arith) m (map joined (numbered (point_lines z.variables) 0 a.rows ++ numbered edge_lines 0 a.proofs) ++ behind) tail in
+      let one = (begins_reads n).complete true (λ e. omega arith) m (map joined (numbered (point_lines z.variables) 0 a.rows ++ numbered edge_lines 0 a.proofs) ++ behind) tail in
       let two = (annotated_reads z most).complete a h.each.0 one.0 behind tail in
       let three = alternatives_complete k (n + 1) (omega arith) as' (record { few = omega arith; each = h.each.1 }) two.0 rest tail in (
         three.0,
