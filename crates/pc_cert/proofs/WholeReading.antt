@@ -1,5 +1,5 @@
 -- A certificate that is read is the one whose lines the text has.
-use Rattle.std.proofs.Common.{◌≡◌, ◌∙◌, refl, ap, subst, ℕ, ◌<◌, ◌≤◌, List, [], ◌∷◌, ◌++◌, length, map, Ok, arith}
+use Rattle.std.proofs.Common.{◌≡◌, refl, ℕ, ◌<◌, ◌≤◌, List, [], ◌∷◌, length, arith}
 use Rattle.std.specs.Prelude.{codes}
 use Rattle.std.specs.List.{AllByRecursion}
 use Rattle.pc_rows.specs.declared.proof.Part.{Part}
@@ -7,20 +7,18 @@ use Rattle.pc_rows.specs.declared.system.TheConstants.{PREMISES}
 use Rattle.pc_rows.specs.Linear.{Linear, IsRow, IsOver}
 use Rattle.pc_rows.specs.Joins.{IsRows}
 use Rattle.pc_rows.specs.Evidence.{Proof, IsPart, IsProof}
-use Rattle.pc_text.specs.Bytes.{Bytes}
 use Rattle.pc_text.proofs.PlainWords.{IsPlain}
-use Rattle.pc_text.proofs.WordLists.{joined}
 use Rattle.pc_lines.specs.declared.sizes.Sizes.{Sizes}
 use Rattle.pc_lines.specs.Kinds.{just, graph, sizes_of}
-use Rattle.pc_lines.specs.Readers.{◌>>=◌, Unread, read_line}
+use Rattle.pc_lines.specs.Readers.{◌>>=◌, read_line}
 use Rattle.pc_lines.specs.Texts.{sizes_line}
 use Rattle.pc_lines.proofs.NamedLines.{just_spelled}
 use Rattle.pc_lines.proofs.RowSpelling.{IsRowOver}
 use Rattle.pc_lines.proofs.ProofSpelling.{IsProofOf}
 use Rattle.pc_lines.proofs.HeadSpelling.{AreWithin, sizes_spelled}
-use Rattle.pc_lines.proofs.LineReading.{AreTaken, ReadsLines, ok_same, give, line_reads}
-use Rattle.pc_lines.proofs.ListReading.{bind_ok, taken_both, AreFew}
-use Rattle.pc_lines.proofs.EndedLines.{unread_of}
+use Rattle.pc_lines.proofs.LineReading.{ReadsLines, give, line_reads}
+use Rattle.pc_lines.proofs.ListReading.{AreFew}
+use Rattle.pc_lines.proofs.Following.{bound_reads, followed_reads}
 use Rattle.pc_certificate.specs.declared.certificate.Annotated.{Annotated}
 use Rattle.pc_certificate.specs.declared.certificate.TheConstants.{ALTERNATIVES}
 use Rattle.pc_certificate.specs.Certificate.{Certificate, IsAnnotation, IsShowable, IsAnnotated, IsCertificate}
@@ -105,44 +103,17 @@ version_reads = line_reads {A = Unit {0}} (just (codes "precond 1")) (λ _. tt) 
 sizes_read : ReadsLines (read_line (graph limits) sizes_of) (λ z. sizes_line z ∷ []) (AreWithin limits)
 sizes_read = line_reads (graph limits) sizes_of sizes_line (AreWithin limits) (sizes_spelled limits)
 
--- a certificate that is read is one whose lines these are
-certificate_sound : (s left : Unread) (c : Certificate) → certificate_reader s ≡ Ok (c, left) → IsGood c × AreTaken (certificate_lines c) s left
-certificate_sound s left c e =
-    let first = bind_ok (Unit {0} × Unread) (Certificate × Unread) (read_line {A = Unit {0}} (just (codes "precond 1")) (λ _. tt) s)
-    (λ v. read_line (graph limits) sizes_of v.1 >>= (λ z. alternatives_reader z.0 0 ALTERNATIVES z.1 >>= (λ all. give all.1 (certificate_with z.0 all.0)))) (c, left) e in
-    let version = first.0 in
-    let second = bind_ok (Sizes × Unread) (Certificate × Unread) (read_line (graph limits) sizes_of version.1)
-    (λ z. alternatives_reader z.0 0 ALTERNATIVES z.1 >>= (λ all. give all.1 (certificate_with z.0 all.0))) (c, left) first.2 in
-    let z = second.0 in
-    let third = bind_ok (List Annotated × Unread) (Certificate × Unread) (alternatives_reader z.0 0 ALTERNATIVES z.1) (λ all. give all.1 (certificate_with z.0 all.0)) (c, left) second.2 in
-    let all = third.0 in
-    let both = ok_same (certificate_with z.0 all.0, all.1) (c, left) third.2 in
-    let is : certificate_with z.0 all.0 ≡ c = ap (λ (x : Certificate × Unread). x.0) both in
-    let same : all.1 ≡ left = ap (λ (x : Certificate × Unread). x.1) both in
-    let one = version_reads.sound s version.1 version.0 first.1 in
-    let two = sizes_read.sound version.1 z.1 z.0 second.1 in
-    let three = (alternatives_read z.0 two.0.variables).sound z.1 all.1 all.0 third.1 in
-    let taken = taken_both (version_line ∷ []) (sizes_line z.0 ∷ alternatives_lines z.0.variables all.0) s version.1 all.1 one.1
-    (taken_both (sizes_line z.0 ∷ []) (alternatives_lines z.0.variables all.0) version.1 z.1 all.1 two.1 three.1) in (
-      subst IsGood is (certificate_is z.0 all.0 two.0 three.0),
-      subst (λ d. AreTaken (certificate_lines d) s left) is (subst (AreTaken (certificate_lines (certificate_with z.0 all.0)) s) same taken),
-    )
-
--- the lines of a certificate are read as that certificate
-certificate_complete : (c : Certificate) → IsGood c → (n : ℕ) (rest : List Bytes) (tail : Bytes) →
-    (m : ℕ) × (certificate_reader (unread_of n (map joined (certificate_lines c) ++ rest) tail) ≡ Ok (c, unread_of m rest tail))
-certificate_complete c h n rest tail =
-    let z = sizes_in c in
-    let all = c.alternatives in
-    let behind = map joined (alternatives_lines z.variables all) ++ rest in
-    let one = version_reads.complete tt tt n (joined (sizes_line z) ∷ behind) tail in
-    let two = sizes_read.complete z (within_of c h.1) one.0 behind tail in
-    let three = (alternatives_read z h.1.variables).complete all (alternatives_of c h.0 h.1) two.0 rest tail in (
-      three.0,
-      ap (λ t. t >>= (λ v. read_line (graph limits) sizes_of v.1 >>= (λ z. alternatives_reader z.0 0 ALTERNATIVES z.1 >>= (λ all. give all.1 (certificate_with z.0 all.0))))) one.1
-          ∙ ap (λ t. t >>= (λ z. alternatives_reader z.0 0 ALTERNATIVES z.1 >>= (λ all. give all.1 (certificate_with z.0 all.0)))) two.1
-          ∙ ap (λ t. t >>= (λ all. give all.1 (certificate_with z all.0))) three.1,
-    )
+-- behind the version stand the sizes, and behind these the alternatives
+sized_reads : ReadsLines (λ s. read_line (graph limits) sizes_of s >>= (λ z. alternatives_reader z.0 0 ALTERNATIVES z.1 >>= (λ all. give all.1 (certificate_with z.0 all.0))))
+    (λ c. sizes_line (sizes_in c) ∷ alternatives_lines c.variables c.alternatives) IsGood
+sized_reads =
+    followed_reads (read_line (graph limits) sizes_of) (λ z. sizes_line z ∷ []) (AreWithin limits) sizes_read
+    (λ z. alternatives_reader z 0 ALTERNATIVES) (λ z. alternatives_lines z.variables) (λ z. AreFew (IsWhole z) ALTERNATIVES) (λ z h. alternatives_read z h.variables ALTERNATIVES 0 refl) certificate_with
+    (λ c. sizes_line (sizes_in c) ∷ alternatives_lines c.variables c.alternatives) IsGood (λ z all h g. (certificate_is z all h g, refl))
+    (λ c h. (sizes_in c, c.alternatives, within_of c h.1, alternatives_of c h.0 h.1, refl))
 
 pub certificate_reads : ReadsLines certificate_reader certificate_lines IsGood
-certificate_reads = record { sound = certificate_sound; complete = certificate_complete }
+certificate_reads =
+    bound_reads (read_line {A = Unit {0}} (just (codes "precond 1")) (λ _. tt)) (λ _. version_line ∷ []) (λ _. Unit {0}) version_reads
+    (λ _ s. read_line (graph limits) sizes_of s >>= (λ z. alternatives_reader z.0 0 ALTERNATIVES z.1 >>= (λ all. give all.1 (certificate_with z.0 all.0))))
+    (λ _ c. sizes_line (sizes_in c) ∷ alternatives_lines c.variables c.alternatives) (λ _. IsGood) (λ _ _. sized_reads) certificate_lines IsGood (λ _ c _ g. (g, refl)) (λ c h. (tt, tt, h))

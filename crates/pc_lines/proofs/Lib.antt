@@ -13,6 +13,7 @@ pub mod RowSpelling
 pub mod ProofSpelling
 pub mod HeadSpelling
 pub mod LineReading
+pub mod Following
 pub mod ListReading
 pub mod FaultReading
 pub mod Told

@@ -16,7 +16,7 @@ use Rattle.pc_lines.specs.Answers.{Gives, MeansBy, TextsDetermine, HaveOneAnswer
 use Rattle.pc_lines.proofs.EndedLines.{unread_of}
 use Rattle.pc_lines.proofs.FaultReading.{FindsFault, fault_in_answer, whole_finds}
 use Rattle.pc_lines.proofs.LineReading.{ReadsLines, ok_same}
-use Rattle.pc_lines.proofs.ListReading.{bind_ok}
+use Rattle.pc_lines.proofs.Following.{bind_ok}
 use Rattle.pc_lines.proofs.PlainTexts.{ArePlainLines, lines_of_text, text_of_lines}
 use Rattle.pc_lines.proofs.Told.{unless_then}
 
