@@ -25,7 +25,7 @@ use Rattle.pc_back.specs.Views.{need_says}
 use Rattle.pc_back.proofs.Keeping.{need_is_kept}
 use Rattle.pc_box.specs.Exact.{HasOneVariable, HasSmallNumbers, IsExactEdge}
 use Rattle.pc_box.proofs.Exactly.{boxes_back_are_exact}
-use Rattle.pc_quick.specs.Quick.{IsQuick}
+use Rattle.pc_facts.specs.Quick.{IsQuick}
 use Rattle.pc_words.specs.declared.domains.QuickDomain.{QuickDomain}
 use Rattle.pc_words.specs.declared.domains.QuickDomain.TheVariants as domains
 use Rattle.pc_app.specs.Enough.{HasOneVariableEach, IsNoStronger, AreEnough}

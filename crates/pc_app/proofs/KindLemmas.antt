@@ -9,7 +9,7 @@ use Rattle.pc_syntax.proofs.Readings.{each_text_has_one, each_text_has_no_more}
 use Rattle.pc_certificate.specs.Certificate.{Certificate}
 use Rattle.pc_cert.specs.CertificateTexts.{IsTextOf}
 use Rattle.pc_cert.specs.Faults.{fault_of}
-use Rattle.pc_cert.specs.declared.fault.CertFault.{CertFault}
+use Rattle.pc_lines.specs.declared.fault.CertFault.{CertFault}
 use Rattle.pc_cert.proofs.Meaning.{each_text_has_one_answer, text_determines_certificate}
 use Rattle.pc_runner.specs.Scripts.{Choosing, script_of}
 use Rattle.pc_runner.specs.declared.fault.ScriptFault.{ScriptFault}

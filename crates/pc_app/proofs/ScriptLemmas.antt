@@ -7,8 +7,8 @@ use Rattle.pc_text.specs.Lines.{lines}
 use Rattle.pc_text.specs.Words.{Words, words, behind}
 use Rattle.pc_cert.specs.Answers.{Means}
 use Rattle.pc_cert.specs.Faults.{fault_of}
-use Rattle.pc_cert.specs.declared.fault.CertFault.{CertFault}
-use Rattle.pc_cert.specs.declared.fault.CertFault.TheVariants as certificate
+use Rattle.pc_lines.specs.declared.fault.CertFault.{CertFault}
+use Rattle.pc_lines.specs.declared.fault.CertFault.TheVariants as certificate
 use Rattle.pc_runner.specs.Answers.{Reads}
 use Rattle.pc_runner.specs.Scripts.{Choosing, script_of, script_by, entry_of, entry_by, as_many, values_in, choices_of, on_ok}
 use Rattle.pc_runner.specs.declared.fault.ScriptFault.{ScriptFault}

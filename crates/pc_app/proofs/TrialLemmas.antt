@@ -7,7 +7,7 @@ use Rattle.pc_syntax.specs.Spelling.{Spells, Means, AlikeUnless}
 use Rattle.pc_syntax.specs.declared.fault.SourceFault.{SourceFault}
 use Rattle.pc_syntax.specs.declared.fault.SourceFault.TheVariants as fault
 use Rattle.pc_certificate.specs.Certificate.{Certificate, condition_of}
-use Rattle.pc_cert.specs.Conditions.{condition_text}
+use Rattle.pc_condition.specs.Conditions.{condition_text}
 use Rattle.pc_gen.specs.Made.{IsLoops, made}
 use Rattle.pc_gen.specs.Summary.{summary_text}
 use Rattle.pc_gen.specs.declared.summary.Summary.{Summary}

@@ -7,7 +7,7 @@ use Rattle.pc_program.specs.declared.program.Program.{Program}
 use Rattle.pc_show.specs.Canonical.{program_text}
 use Rattle.pc_certificate.specs.Certificate.{Certificate, condition_of}
 use Rattle.pc_cert.specs.CertificateTexts.{IsTextOf}
-use Rattle.pc_cert.specs.Conditions.{condition_text}
+use Rattle.pc_condition.specs.Conditions.{condition_text}
 use Rattle.pc_graph.specs.Lowering.{graph}
 use Rattle.pc_replay.specs.Accepts.{Accepts}
 use Rattle.pc_replay.specs.Rule.{ruling}

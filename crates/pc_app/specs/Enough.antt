@@ -11,7 +11,7 @@ use Rattle.pc_graph.specs.Lowering.{graph}
 use Rattle.pc_lower.specs.Tame.{IsTame}
 use Rattle.pc_box.specs.Exact.{HasOneVariable}
 use Rattle.pc_back.specs.Laws.{needed}
-use Rattle.pc_cert.specs.Conditions.{condition_text}
+use Rattle.pc_condition.specs.Conditions.{condition_text}
 use Rattle.pc_words.specs.declared.domains.QuickDomain.{QuickDomain}
 use Rattle.pc_words.specs.declared.domains.QuickDomain.TheVariants as domains
 use Rattle.pc_app.specs.Inferred.{IsEntry, Suffices, IsTameAndStraight}

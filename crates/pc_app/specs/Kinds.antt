@@ -6,7 +6,7 @@ use Rattle.pc_syntax.specs.Spelling.{Spells, Faulty}
 use Rattle.pc_certificate.specs.Certificate.{Certificate}
 use Rattle.pc_cert.specs.CertificateTexts.{IsTextOf}
 use Rattle.pc_cert.specs.Faults.{fault_of}
-use Rattle.pc_cert.specs.declared.fault.CertFault.{CertFault}
+use Rattle.pc_lines.specs.declared.fault.CertFault.{CertFault}
 use Rattle.pc_runner.specs.Scripts.{Choosing, script_of}
 use Rattle.pc_runner.specs.declared.fault.ScriptFault.{ScriptFault}
 use Rattle.pc_app.specs.declared.status.TheConstants.{REFUSED, MALFORMED}

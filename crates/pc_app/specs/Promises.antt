@@ -8,7 +8,7 @@ use Rattle.pc_syntax.specs.Spelling.{Spells}
 use Rattle.pc_show.specs.Canonical.{program_text}
 use Rattle.pc_certificate.specs.Certificate.{Certificate, condition_of}
 use Rattle.pc_cert.specs.CertificateTexts.{IsTextOf}
-use Rattle.pc_cert.specs.Conditions.{condition_text}
+use Rattle.pc_condition.specs.Conditions.{condition_text}
 use Rattle.pc_facts.specs.Lines.{lines_from}
 use Rattle.pc_graph.specs.Lowering.{graph}
 use Rattle.pc_replay.specs.Accepts.{Accepts}

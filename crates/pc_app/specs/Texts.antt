@@ -7,8 +7,8 @@ use Rattle.pc_syntax.specs.declared.fault.SourceFault.{SourceFault}
 use Rattle.pc_syntax.specs.declared.fault.SourceFault.TheVariants as fault
 use Rattle.pc_runner.specs.declared.fault.ScriptFault.{ScriptFault}
 use Rattle.pc_runner.specs.declared.fault.ScriptFault.TheVariants as script
-use Rattle.pc_cert.specs.declared.fault.CertFault.{CertFault}
-use Rattle.pc_cert.specs.declared.fault.CertFault.TheVariants as certificate
+use Rattle.pc_lines.specs.declared.fault.CertFault.{CertFault}
+use Rattle.pc_lines.specs.declared.fault.CertFault.TheVariants as certificate
 
 abbrev pub source_too_long : Bytes
 source_too_long = codes "too long: source\n"

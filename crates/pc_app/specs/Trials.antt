@@ -5,7 +5,7 @@ use Rattle.pc_rows.specs.Linear.{Linear}
 use Rattle.pc_program.specs.declared.program.Program.{Program}
 use Rattle.pc_syntax.specs.Spelling.{Spells}
 use Rattle.pc_graph.specs.Lowering.{graph}
-use Rattle.pc_cert.specs.Conditions.{condition_text}
+use Rattle.pc_condition.specs.Conditions.{condition_text}
 use Rattle.pc_gen.specs.Made.{IsLoops, made}
 use Rattle.pc_gen.specs.Summary.{summary_text}
 use Rattle.pc_gen.specs.declared.summary.Summary.{Summary}

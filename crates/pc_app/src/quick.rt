@@ -3,7 +3,7 @@
 ghost use Rattle.std.specs.Prelude.{◌≡◌, ◌≤◌, ℕ, List, length, IfOk};
 ghost use Rattle.pc_back.specs.contracts.member.NeedBackward.TheImpl.{ghosts as needs};
 ghost use Rattle.pc_box.specs.contracts.backward.Box16Backward.TheImpl.{ghosts as boxes};
-ghost use Rattle.pc_quick.specs.Quick.{IsQuick};
+ghost use Rattle.pc_facts.specs.Quick.{IsQuick};
 ghost use Rattle.pc_app.specs.Enough.{AreEnough};
 ghost use Rattle.pc_app.specs.Reading.{OrderIs};
 ghost use Rattle.pc_words.specs.Words.{Quick};
@@ -17,7 +17,7 @@ use pc_flow::Graph;
 use pc_graph::lower;
 use pc_ports::Store;
 use pc_program::Program;
-use pc_quick::show_quick;
+use pc_facts::show_quick;
 use pc_text::{Names, NoMemory, Text};
 use pc_words::QuickDomain;
 use std::alloc::Global;

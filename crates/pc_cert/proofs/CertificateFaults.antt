@@ -1,43 +1,41 @@
 -- The reader of certificates finds the fault of a text that is none.
-use Rattle.std.proofs.Common.{◌≡◌, ◌∙◌, refl, ap, sym, ℕ, zero, suc, ◌+◌, ◌<◌, Bool, true, false, cond, not, List, [], ◌∷◌, ◌++◌, append_assoc, Option, Some, None, Result, Ok, Err, arith}
-use Rattle.std.specs.Prelude.{◌&&◌, codes}
-use Rattle.pc_text.specs.Bytes.{Bytes}
+use Rattle.std.proofs.Common.{◌≡◌, refl, ℕ, zero, suc, ◌+◌, ◌<◌, Bool, true, false, cond, not, List, [], ◌∷◌, ◌++◌, Ok, arith}
+use Rattle.std.specs.Prelude.{codes}
 use Rattle.pc_rows.specs.Linear.{Linear}
 use Rattle.pc_rows.specs.Evidence.{Proof}
+use Rattle.pc_lines.specs.declared.sizes.Sizes.{Sizes}
+use Rattle.pc_lines.specs.Kinds.{just, graph, sizes_of}
+use Rattle.pc_lines.specs.Faults.{in_order}
+use Rattle.pc_lines.specs.Readers.{◌>>=◌, Unread, Reader, read_line, repeated, row_value, proof_value, row_reader, proof_reader}
+use Rattle.pc_lines.proofs.LineReading.{give}
+use Rattle.pc_lines.proofs.FaultReading.{Brings, FindsFault, line_brings, first_finds, bound_finds, followed_finds, repeated_finds, headed_finds}
 use Rattle.pc_certificate.specs.declared.certificate.Annotated.{Annotated}
-use Rattle.pc_cert.specs.declared.sizes.Sizes.{Sizes}
 use Rattle.pc_certificate.specs.declared.certificate.TheConstants.{ALTERNATIVES}
-use Rattle.pc_cert.specs.declared.fault.CertFault.{CertFault}
-use Rattle.pc_cert.specs.declared.fault.CertFault.TheVariants as fault
 use Rattle.pc_certificate.specs.Certificate.{Certificate}
-use Rattle.pc_text.specs.Words.{is_empty}
-use Rattle.pc_cert.specs.Forms.{is_word}
-use Rattle.pc_cert.specs.Faults.{Wanted, Version, Graph, Next, Point, Edge, sizes_of, in_order, alternative}
-use Rattle.pc_cert.specs.Readers.{◌>>=◌, Unread, read_line, repeated, point_reader, edge_reader, annotated_reader, goes_on, begins, alternatives_reader, is_over, whole, certificate_reader}
-use Rattle.pc_cert.proofs.LineReading.{give}
-use Rattle.pc_cert.proofs.AlternativeReading.{begins_reads, annotated_with}
-use Rattle.pc_cert.proofs.CertificateReading.{read_one, none_is, one_is}
-use Rattle.pc_cert.proofs.FaultReading.{fault_in, or_left, or_left_then, or_left_same, FindsFault, line_brings, repeated_finds, point_finds, edge_finds}
-use Rattle.pc_cert.proofs.WholeReading.{certificate_with}
-use Rattle.pc_cert.proofs.EndedLines.{unread_of}
+use Rattle.pc_rows.specs.declared.system.TheConstants.{PREMISES}
+use Rattle.pc_cert.specs.Faults.{Wanted, Version, Graph, Next, Point, Row, Edge, Proof as ProofLine, limits, is_end, alternative, format}
+use Rattle.pc_cert.specs.Readers.{point_reader, edge_reader, annotated_reader, goes_on, begins, alternatives_reader, certificate_with, certificate_reader}
+use Rattle.pc_cert.proofs.AlternativeReading.{HasRoom, begins_reads, annotated_with}
+use Rattle.pc_cert.proofs.CertificateReading.{read_one}
 
-annotated_finds : (z : Sizes) → FindsFault (annotated_reader z) (in_order (Point z.variables) 0 z.points ++ in_order Edge 0 z.edges)
-annotated_finds z = λ more s.
-    let points = in_order (Point z.variables) 0 z.points in
-    let edges = in_order Edge 0 z.edges in
-    ap (λ ws. fault_in ws s) (append_assoc points edges more)
-    ∙ repeated_finds (List Linear) (point_reader z.variables) (Point z.variables) (point_finds z.variables) 0 z.points (edges ++ more) s
-    ∙ or_left_same (repeated (point_reader z.variables) 0 z.points s) (λ rows left. fault_in (edges ++ more) left)
-    (λ rows left. or_left (repeated edge_reader 0 z.edges left >>= (λ proofs. give proofs.1 (annotated_with rows proofs.0))) (λ a left. fault_in more left))
-    (λ rows left. repeated_finds (List Proof) edge_reader Edge edge_finds 0 z.edges more left
-    ∙ sym (or_left_then (repeated edge_reader 0 z.edges left) (λ proofs. give proofs.1 (annotated_with rows proofs.0)) (λ a left. fault_in more left)))
-    ∙ sym (or_left_then (repeated (point_reader z.variables) 0 z.points s) (λ rows. repeated edge_reader 0 z.edges rows.1 >>= (λ proofs. give proofs.1 (annotated_with rows.0 proofs.0))) (λ a left. fault_in more left))
+point_finds : (v p : ℕ) → FindsFault format (point_reader v p) (Point v p ∷ [])
+point_finds v p = headed_finds format Linear (Point v p) (Row v) (row_reader v) (λ ws. refl) (line_brings format Linear (Row v) (row_value v) (λ r. []) (λ ws. refl))
+
+edge_finds : (e : ℕ) → FindsFault format (edge_reader e) (Edge e ∷ [])
+edge_finds e = headed_finds format Proof (Edge e) ProofLine (proof_reader PREMISES) (λ ws. refl) (line_brings format Proof ProofLine proof_value (λ p. []) (λ ws. refl))
+
+abbrev inside : Sizes → List Wanted
+inside z = in_order (Point z.variables) 0 z.points ++ in_order Edge 0 z.edges
+
+annotated_finds : (z : Sizes) → FindsFault format (annotated_reader z) (inside z)
+annotated_finds z =
+    followed_finds format (List (List Linear)) (List (List Proof)) (repeated (point_reader z.variables) 0 z.points) (λ rows. Unit {0}) (λ s left rows e. tt) (λ rows. repeated edge_reader 0 z.edges) (inside z)
+    (λ rows. in_order Edge 0 z.edges)
+    (first_finds format (List (List Linear)) (repeated (point_reader z.variables) 0 z.points) (in_order (Point z.variables) 0 z.points) (in_order Edge 0 z.edges)
+    (repeated_finds format (List Linear) (point_reader z.variables) (Point z.variables) (point_finds z.variables) 0 z.points))
+    (λ rows h. repeated_finds format (List Proof) edge_reader Edge edge_finds 0 z.edges) Annotated annotated_with
 
 -- ---- alternatives
-
-or_left_known : {A : Type 0} (r : Result (A × Unread) CertFault) (f g : A → Unread → Option CertFault) → ((x : A) (left : Unread) → r ≡ Ok (x, left) → f x left ≡ g x left) → or_left r f ≡ or_left r g
-or_left_known (Ok x) f g e = e x.0 x.1 refl
-or_left_known (Err e) f g h = refl
 
 wants_of : Sizes → ℕ → Bool → List Wanted
 wants_of z n more = cond more (alternative z n) []
@@ -46,77 +44,42 @@ brought : (t : Bool) (xs : List Wanted) → cond t [] xs ≡ cond (not t) xs []
 brought true xs = refl
 brought false xs = refl
 
-next_brings : (z : Sizes) (n : ℕ) (more : List Wanted) (s : Unread) → fault_in (Next z n ∷ more) s ≡ or_left (begins z n s) (λ b left. fault_in (wants_of z n b ++ more) left)
+begins_brings : (z : Sizes) (n : ℕ) → Brings format (begins n) (Next z n ∷ []) (wants_of z n)
 unfolding wants_of
-next_brings z n more s = line_brings Bool (Next z n) goes_on (wants_of z n) (λ ws. brought (is_word (codes "end") ws) (alternative z n)) more s.number s.lines s.tail
+begins_brings z n = line_brings format Bool (Next z n) goes_on (wants_of z n) (λ ws. brought (is_end ws) (alternative z n))
 
-last_by : (z : Sizes) (n : ℕ) → n + 0 ≡ ALTERNATIVES → (more : List Wanted) (s : Unread) (b : Bool) (left : Unread) → begins z n s ≡ Ok (b, left) → fault_in (wants_of z n b ++ more) left ≡ fault_in more left
+last_finds : (z : Sizes) (n : ℕ) → n + 0 ≡ ALTERNATIVES → (more : Bool) → HasRoom n more → FindsFault {A = List Annotated} format (λ s. give s []) (wants_of z n more)
 unfolding wants_of
-last_by z n room more s true left e = let less : n < ALTERNATIVES = ((begins_reads z n).sound s left true e).0 refl in absurd (omega arith)
-last_by z n room more s false left e = refl
+last_finds z n room true h = let less : n < ALTERNATIVES = h refl in absurd (omega arith)
+last_finds z n room false h = λ more s. refl
 
-one_by : (z : Sizes) (n k : ℕ) (more : List Wanted) → FindsFault (alternatives_reader z (n + 1) k) (Next z (n + 1) ∷ []) → (b : Bool) (left : Unread) →
-    fault_in (wants_of z n b ++ more) left ≡ or_left (read_one z n k (b, left)) (λ all left. fault_in more left)
-unfolding wants_of read_one
-one_by z n k more again false left = refl
-one_by z n k more again true left =
-    let lines = in_order (Point z.variables) 0 z.points ++ in_order Edge 0 z.edges in
-    ap (λ ws. fault_in ws left) (append_assoc lines (Next z (n + 1) ∷ []) more)
-    ∙ annotated_finds z (Next z (n + 1) ∷ more) left
-    ∙ or_left_same (annotated_reader z left) (λ a left. fault_in (Next z (n + 1) ∷ more) left)
-    (λ a left. or_left (alternatives_reader z (n + 1) k left >>= (λ others. give others.1 (a ∷ others.0))) (λ all left. fault_in more left))
-    (λ a left. again more left ∙ sym (or_left_then (alternatives_reader z (n + 1) k left) (λ others. give others.1 (a ∷ others.0)) (λ all left. fault_in more left)))
-    ∙ sym (or_left_then (annotated_reader z left) (λ a. alternatives_reader z (n + 1) k a.1 >>= (λ others. give others.1 (a.0 ∷ others.0))) (λ all left. fault_in more left))
+one_finds : (z : Sizes) (n k : ℕ) → FindsFault format (alternatives_reader z (n + 1) k) (Next z (n + 1) ∷ []) → (more : Bool) → FindsFault format (read_one z n k more) (wants_of z n more)
+unfolding wants_of
+one_finds z n k again true =
+    followed_finds format Annotated (List Annotated) (annotated_reader z) (λ a. Unit {0}) (λ s left a e. tt) (λ a. alternatives_reader z (n + 1) k) (alternative z n) (λ a. Next z (n + 1) ∷ [])
+    (first_finds format Annotated (annotated_reader z) (inside z) (Next z (n + 1) ∷ []) (annotated_finds z)) (λ a h. again) (List Annotated) (λ a others. a ∷ others)
+one_finds z n k again false = λ more s. refl
 
-alternatives_find : (z : Sizes) (k n : ℕ) → n + k ≡ ALTERNATIVES → FindsFault (alternatives_reader z n k) (Next z n ∷ [])
-alternatives_find z zero n room = λ more s.
-    next_brings z n more s
-    ∙ or_left_known (begins z n s) (λ b left. fault_in (wants_of z n b ++ more) left) (λ b left. fault_in more left) (last_by z n room more s)
-    ∙ sym (ap (λ r. or_left r (λ all left. fault_in more left)) (none_is z n s) ∙ or_left_then (begins z n s) (λ more. give more.1 []) (λ all left. fault_in more left))
-alternatives_find z (suc k) n room = λ more s.
-    next_brings z n more s
-    ∙ or_left_same (begins z n s) (λ b left. fault_in (wants_of z n b ++ more) left) (λ b left. or_left (read_one z n k (b, left)) (λ all left. fault_in more left))
-    (one_by z n k more (alternatives_find z k (n + 1) (omega arith)))
-    ∙ sym (ap (λ r. or_left r (λ all left. fault_in more left)) (one_is z n k s) ∙ or_left_then (begins z n s) (read_one z n k) (λ all left. fault_in more left))
+begun : (n : ℕ) (s left : Unread) (more : Bool) → begins n s ≡ Ok (more, left) → HasRoom n more
+begun n s left more e = ((begins_reads n).sound s left more e).0
+
+alternatives_find : (z : Sizes) (k n : ℕ) → n + k ≡ ALTERNATIVES → FindsFault format (alternatives_reader z n k) (Next z n ∷ [])
+unfolding alternatives_reader
+alternatives_find z zero n room = bound_finds format Bool (List Annotated) (begins n) (HasRoom n) (begun n) (λ more s. give s []) (Next z n ∷ []) (wants_of z n) (begins_brings z n) (last_finds z n room)
+alternatives_find z (suc k) n room =
+    bound_finds format Bool (List Annotated) (begins n) (HasRoom n) (begun n) (read_one z n k) (Next z n ∷ []) (wants_of z n) (begins_brings z n)
+    (λ more h. one_finds z n k (alternatives_find z k (n + 1) (omega arith)) more)
 
 -- ---- certificates
 
--- the fault of an answer
-abbrev pub fault_in_answer : Result Certificate CertFault → Option CertFault
-fault_in_answer (Ok c) = None
-fault_in_answer (Err e) = Some e
+sized_finds : FindsFault format (λ s. read_line (graph limits) sizes_of s >>= (λ z. alternatives_reader z.0 0 ALTERNATIVES z.1 >>= (λ all. give all.1 (certificate_with z.0 all.0)))) (Graph ∷ [])
+sized_finds =
+    followed_finds format Sizes (List Annotated) (read_line (graph limits) sizes_of) (λ z. Unit {0}) (λ s left z e. tt) (λ z. alternatives_reader z 0 ALTERNATIVES) (Graph ∷ []) (λ z. Next z 0 ∷ [])
+    (line_brings format Sizes Graph sizes_of (λ z. Next z 0 ∷ []) (λ ws. refl)) (λ z h. alternatives_find z ALTERNATIVES 0 refl) Certificate certificate_with
 
-over_by : (over : Bool) (c : Certificate) (n : ℕ) → cond over None (Some (fault.Trailing n)) ≡ fault_in_answer (cond over (Ok c) (Err (fault.Trailing n)))
-over_by true c n = refl
-over_by false c n = refl
-
-nothing_wanted : (n : ℕ) (lines : List Bytes) (tail : Bytes) → fault_in [] (unread_of n lines tail) ≡ cond (is_empty lines && is_empty tail) None (Some (fault.Trailing n))
-nothing_wanted n [] tail = refl
-nothing_wanted n (line ∷ lines) tail = refl
-
-answer_then : {A : Type 0} (r : Result (A × Unread) CertFault) (g : A × Unread → Result Certificate CertFault) → fault_in_answer (r >>= g) ≡ or_left r (λ x left. fault_in_answer (g (x, left)))
-answer_then (Ok x) g = refl
-answer_then (Err e) g = refl
-
-whole_finds : (z : Sizes) (all : List Annotated) (left : Unread) → fault_in [] left ≡ fault_in_answer (whole z all left)
-whole_finds z all left = nothing_wanted left.number left.lines left.tail ∙ over_by (is_over left) (certificate_with z all) left.number
-
-sizes_find : (z : Sizes) (left : Unread) → fault_in (Next z 0 ∷ []) left ≡ fault_in_answer (alternatives_reader z 0 ALTERNATIVES left >>= (λ all. whole z all.0 all.1))
-sizes_find z left =
-    alternatives_find z ALTERNATIVES 0 refl [] left
-    ∙ or_left_same (alternatives_reader z 0 ALTERNATIVES left) (λ all left. fault_in [] left) (λ all left. fault_in_answer (whole z all left)) (whole_finds z)
-    ∙ sym (answer_then (alternatives_reader z 0 ALTERNATIVES left) (λ all. whole z all.0 all.1))
-
-graph_finds : (s : Unread) → fault_in (Graph ∷ []) s ≡ fault_in_answer (read_line Graph sizes_of s >>= (λ z. alternatives_reader z.0 0 ALTERNATIVES z.1 >>= (λ all. whole z.0 all.0 all.1)))
-graph_finds s =
-    line_brings Sizes Graph sizes_of (λ z. Next z 0 ∷ []) (λ ws. refl) [] s.number s.lines s.tail
-    ∙ or_left_same (read_line Graph sizes_of s) (λ z left. fault_in (Next z 0 ∷ []) left) (λ z left. fault_in_answer (alternatives_reader z 0 ALTERNATIVES left >>= (λ all. whole z all.0 all.1))) sizes_find
-    ∙ sym (answer_then (read_line Graph sizes_of s) (λ z. alternatives_reader z.0 0 ALTERNATIVES z.1 >>= (λ all. whole z.0 all.0 all.1)))
-
--- the fault of the answer is the text's
-pub certificate_finds : (s : Unread) → fault_in (Version ∷ Graph ∷ []) s ≡ fault_in_answer (certificate_reader s)
-certificate_finds s =
-    line_brings (Unit {0}) Version (λ _. tt) (λ _. []) (λ ws. refl) (Graph ∷ []) s.number s.lines s.tail
-    ∙ or_left_same (read_line {A = Unit {0}} Version (λ _. tt) s) (λ _ left. fault_in (Graph ∷ []) left)
-    (λ _ left. fault_in_answer (read_line Graph sizes_of left >>= (λ z. alternatives_reader z.0 0 ALTERNATIVES z.1 >>= (λ all. whole z.0 all.0 all.1)))) (λ _ left. graph_finds left)
-    ∙ sym (answer_then (read_line {A = Unit {0}} Version (λ _. tt) s) (λ v. read_line Graph sizes_of v.1 >>= (λ z. alternatives_reader z.0 0 ALTERNATIVES z.1 >>= (λ all. whole z.0 all.0 all.1))))
+-- the reader of certificates reads what is wanted, or finds its fault
+pub certificate_finds : FindsFault format certificate_reader (Version ∷ Graph ∷ [])
+certificate_finds =
+    bound_finds format (Unit {0}) Certificate (read_line {A = Unit {0}} (just (codes "precond 1")) (λ _. tt)) (λ _. Unit {0}) (λ s left v e. tt)
+    (λ _ s. read_line (graph limits) sizes_of s >>= (λ z. alternatives_reader z.0 0 ALTERNATIVES z.1 >>= (λ all. give all.1 (certificate_with z.0 all.0)))) (Version ∷ Graph ∷ []) (λ _. Graph ∷ [])
+    (first_finds format (Unit {0}) (read_line {A = Unit {0}} (just (codes "precond 1")) (λ _. tt)) (Version ∷ []) (Graph ∷ []) (line_brings format (Unit {0}) Version (λ _. tt) (λ _. []) (λ ws. refl))) (λ _ _. sized_finds)

@@ -1,34 +1,10 @@
-pub mod NamedLines
-pub mod Counted
-pub mod Ranges
-pub mod LineSteps
-pub mod PartSteps
-pub mod LineLaws
-pub mod EndedLines
-pub mod Repeats
-pub mod Rounds
-pub mod Shown
-pub mod PlainTexts
-pub mod Spelled
-pub mod RowSpelling
-pub mod ProofSpelling
-pub mod HeadSpelling
-pub mod LineReading
-pub mod ListReading
-pub mod AlternativeReading
-pub mod CertificateReading
+mod Rounds
+mod Saying
+mod TwoParts
+mod AlternativeReading
+mod CertificateReading
 pub mod WholeReading
-pub mod FaultReading
-pub mod CertificateFaults
-pub mod PlainLines
+mod CertificateFaults
+mod PlainLines
 pub mod Meaning
-pub mod Told
-pub mod Names
-pub mod Sums
-pub mod Parts
-pub mod Terms
-pub mod Rows
-pub mod Lines
-pub mod Growing
 pub mod ShortTexts
-pub mod Saying

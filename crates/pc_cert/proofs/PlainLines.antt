@@ -4,33 +4,17 @@ use Rattle.std.specs.Prelude.{codes}
 use Rattle.std.specs.List.{AllByRecursion, flat_map}
 use Rattle.pc_rows.specs.Linear.{Linear}
 use Rattle.pc_rows.specs.Evidence.{Proof}
-use Rattle.pc_rows.proofs.Joining.{each_join}
 use Rattle.pc_certificate.specs.declared.certificate.Annotated.{Annotated}
 use Rattle.pc_certificate.specs.Certificate.{Certificate}
 use Rattle.pc_text.specs.Words.{Words}
-use Rattle.pc_cert.specs.CertificateTexts.{row_line, proof_line, point_lines, edge_lines, numbered, alternative_lines, certificate_lines}
+use Rattle.pc_lines.specs.Texts.{row_line, proof_line, numbered}
+use Rattle.pc_cert.specs.CertificateTexts.{point_lines, edge_lines, alternative_lines, certificate_lines}
 use Rattle.pc_text.proofs.PlainWords.{IsPlain, numerals_plain}
-use Rattle.pc_cert.proofs.ProofSpelling.{proof_plain}
-use Rattle.pc_cert.proofs.HeadSpelling.{counts_plain, point_plain, edge_plain, graph_plain, precond_plain, one_plain}
-use Rattle.pc_cert.proofs.AlternativeReading.{alternative_plain, end_plain}
-
-abbrev pub ArePlainLines : List Words → Type 0
-ArePlainLines ls = AllByRecursion (AllByRecursion IsPlain) ls
-
-both_plain : (a b : List Words) → ArePlainLines a → ArePlainLines b → ArePlainLines (a ++ b)
-both_plain a b h g = each_join (AllByRecursion IsPlain) a b h g
-
-map_plain : {A : Type 0} (line : A → Words) → ((x : A) → AllByRecursion IsPlain (line x)) → (xs : List A) → ArePlainLines (map line xs)
-map_plain line h [] = tt
-map_plain line h (x ∷ xs) = (h x, map_plain line h xs)
-
-numbered_plain : {A : Type 0} (lines : ℕ → A → List Words) → ((n : ℕ) (x : A) → ArePlainLines (lines n x)) → (n : ℕ) (xs : List A) → ArePlainLines (numbered lines n xs)
-numbered_plain lines h n [] = tt
-numbered_plain lines h n (x ∷ xs) = both_plain (lines n x) (numbered lines (n + 1) xs) (h n x) (numbered_plain lines h (n + 1) xs)
-
-flat_plain : {A : Type 0} (lines : A → List Words) → ((x : A) → ArePlainLines (lines x)) → (xs : List A) → ArePlainLines (flat_map lines xs)
-flat_plain lines h [] = tt
-flat_plain lines h (x ∷ xs) = both_plain (lines x) (flat_map lines xs) (h x) (flat_plain lines h xs)
+use Rattle.pc_lines.proofs.ProofSpelling.{proof_plain}
+use Rattle.pc_lines.proofs.HeadSpelling.{counts_plain, graph_plain}
+use Rattle.pc_lines.proofs.PlainTexts.{ArePlainLines, both_plain, map_plain, numbered_plain, flat_plain}
+use Rattle.pc_cert.proofs.AlternativeReading.{point_plain, edge_plain, alternative_plain, end_plain}
+use Rattle.pc_cert.proofs.WholeReading.{precond_plain, one_plain}
 
 point_lines_plain : (v p : ℕ) (rows : List Linear) → ArePlainLines (point_lines v p rows)
 point_lines_plain v p rows = ((point_plain, counts_plain (p ∷ _ ∷ [])), map_plain (row_line v) (λ r. numerals_plain (r.constant ∷ take v r.coefficients)) rows)

@@ -20,9 +20,11 @@ use Rattle.pc_language.specs.declared.limits.TheConstants.{EDGES}
 use Rattle.pc_text.specs.Words.{Words}
 use Rattle.pc_certificate.specs.Certificate.{IsAnnotation, IsAnnotated, NamesPremises, IsLean, AreLean}
 use Rattle.pc_cert.specs.Lengths.{row_bytes, proof_bytes, point_bytes, edge_bytes, alternative_bytes, text_bytes, TextsAreShort}
-use Rattle.pc_cert.specs.CertificateTexts.{counts, row_line, proof_line, point_lines, edge_lines, numbered, alternative_lines, line_text, lines_text}
-use Rattle.pc_cert.proofs.RowSpelling.{range_of_front}
-use Rattle.pc_cert.proofs.ProofSpelling.{from_zero}
+use Rattle.pc_lines.specs.Texts.{counts, row_line, proof_line, numbered, line_text, lines_text}
+use Rattle.pc_cert.specs.CertificateTexts.{point_lines, edge_lines, alternative_lines}
+use Rattle.pc_lines.proofs.RowSpelling.{range_of_front}
+use Rattle.pc_lines.proofs.ProofSpelling.{from_zero}
+use Rattle.pc_cert.proofs.WholeReading.{part_indices}
 
 -- ---- numerals
 
@@ -169,10 +171,6 @@ both P Q [] h g = tt
 both P Q (x ∷ xs) h g = ((h.0, g.0), both P Q xs h.1 g.1)
 
 -- every proof names only premises that a system may have
-part_indices : (ps : List Part) → AllByRecursion IsPart ps → AllByRecursion (λ q. q.index < PREMISES) ps
-part_indices [] h = tt
-part_indices (p ∷ ps) h = (h.0.index, part_indices ps h.1)
-
 names_premises : (proofs : List Proof) → AllByRecursion IsProof proofs → AllByRecursion (NamesPremises PREMISES) proofs
 names_premises [] h = tt
 names_premises (p ∷ proofs) h = (part_indices p.parts h.0.parts.each, names_premises proofs h.1)

@@ -5,7 +5,8 @@ use Rattle.pc_rows.specs.declared.proof.Part.{Part}
 use Rattle.pc_rows.specs.Linear.{Linear}
 use Rattle.pc_rows.specs.Evidence.{Proof}
 use Rattle.pc_certificate.specs.Certificate.{Certificate, condition_of}
-use Rattle.pc_cert.specs.CertificateTexts.{lines_text, point_lines, edge_lines, certificate_text}
+use Rattle.pc_lines.specs.Texts.{lines_text}
+use Rattle.pc_cert.specs.CertificateTexts.{point_lines, edge_lines, certificate_text}
 
 abbrev row : ℤ → List ℤ → Linear
 row constant coefficients = record { constant = constant; coefficients = coefficients }

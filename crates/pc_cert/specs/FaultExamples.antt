@@ -2,7 +2,7 @@
 use Rattle.std.specs.Prelude.{◌≡◌, ◌++◌, [], Some, None, codes, refl}
 use Rattle.pc_text.specs.Bytes.{Bytes}
 use Rattle.pc_text.specs.Lexemes.{class}
-use Rattle.pc_cert.specs.declared.fault.CertFault.TheVariants as fault
+use Rattle.pc_lines.specs.declared.fault.CertFault.TheVariants as fault
 use Rattle.pc_cert.specs.Faults.{fault_of}
 
 abbrev head : Bytes

@@ -1,35 +1,21 @@
 //! Certificates, read from their texts.
 
-ghost use Rattle.std.specs.Prelude.{◌≤◌, ◌<◌, ◌-◌, ◌^◌, length, IfOk};
-ghost use Rattle.pc_cert.specs.Answers.{Gives, Reads, Means};
-ghost use Rattle.pc_cert.specs.CertificateTexts.{IsTextOf};
+ghost use Rattle.std.specs.Prelude.{◌≡◌, ◌≤◌, ◌<◌, ◌-◌, ◌^◌, true, length, IfOk};
 ghost use Rattle.pc_certificate.specs.Certificate.{Certificate as Claim};
+ghost use Rattle.pc_lines.specs.Answers.{Gives, Reads};
+ghost use Rattle.pc_lines.specs.Kinds.{AreSmall};
+ghost use Rattle.pc_lines.specs.Readers.{line_value, repeated, whole as nothing_behind};
+ghost use Rattle.pc_text.specs.Words.{words};
+ghost use Rattle.pc_cert.specs.Answers.{Means};
+ghost use Rattle.pc_cert.specs.CertificateTexts.{IsTextOf};
+ghost use Rattle.pc_cert.specs.Faults as wanted;
 ghost use Rattle.pc_cert.specs.Readers as spec;
 
-use crate::fault::CertFault;
-use crate::reader::Reader;
-use crate::sizes::Sizes;
-use pc_certificate::{ALTERNATIVES, Annotated, Certificate};
-use pc_rows::{Proof, ROWS, Rows, VARIABLES};
+use pc_certificate::{ALTERNATIVES, Annotated, Certificate, EDGES, POINTS};
+use pc_lines::{CertFault, Reader, Sizes, proofs, rows};
+use pc_rows::{PREMISES, Proof, ROWS, Rows, VARIABLES};
 use sqlite_items::Items;
 use std::alloc::Global;
-
-/// So many rows, one in each line.
-fn rows(alloc: Global, lines: &mut Reader, variables: u32, count: usize) -> Result<Rows, CertFault>
-    requires variables { variables ≤ VARIABLES }
-    requires few { count ≤ ROWS }
-    ensures { Reads (spec.repeated (λ _. spec.row_reader variables) 0 count lines.old) result lines.new }
-{
-    let mut rows = Rows::new(alloc);
-    'rows: for _ in 0..count {
-        let row = lines.row(alloc, variables)?;
-        // There is room for every row, so a push is refused for want of memory alone.
-        if rows.push(row).is_err() {
-            return Err(CertFault::NoMemory);
-        }
-    }
-    Ok(rows)
-}
 
 /// The rows of point `p`, behind the line that tells how many they are.
 fn point(alloc: Global, lines: &mut Reader, variables: u32, p: u32) -> Result<Rows, CertFault>
@@ -37,14 +23,14 @@ fn point(alloc: Global, lines: &mut Reader, variables: u32, p: u32) -> Result<Ro
     requires number { p < 2 ^ 32 - 1 }
     ensures { Reads (spec.point_reader variables p lines.old) result lines.new }
 {
-    let count = lines.point(variables, p)?;
+    let count = lines.head(b"point", p, ROWS)?;
     rows(alloc, lines, variables, count)
 }
 
 /// The rows of so many points.
 fn points(alloc: Global, lines: &mut Reader, sizes: Sizes) -> Result<Items<Rows>, CertFault>
     requires { sizes.variables ≤ VARIABLES }
-    ensures { Reads (spec.repeated (spec.point_reader sizes.variables) 0 sizes.points lines.old) result lines.new }
+    ensures { Reads (repeated (spec.point_reader sizes.variables) 0 sizes.points lines.old) result lines.new }
 {
     let mut points = Items::new(alloc);
     'points: for p in 0..sizes.points {
@@ -53,29 +39,18 @@ fn points(alloc: Global, lines: &mut Reader, sizes: Sizes) -> Result<Items<Rows>
     Ok(points)
 }
 
-/// So many proofs, one in each line.
-fn proofs(alloc: Global, lines: &mut Reader, count: usize) -> Result<Items<Proof>, CertFault>
-    ensures { Reads (spec.repeated (λ _. spec.proof_reader) 0 count lines.old) result lines.new }
-{
-    let mut proofs = Items::new(alloc);
-    'proofs: for _ in 0..count {
-        proofs.push(lines.proof(alloc)?)?;
-    }
-    Ok(proofs)
-}
-
 /// The proofs of edge `e`, behind the line that tells how many they are.
 fn edge(alloc: Global, lines: &mut Reader, e: u32) -> Result<Items<Proof>, CertFault>
     requires { e < 2 ^ 32 - 1 }
     ensures { Reads (spec.edge_reader e lines.old) result lines.new }
 {
-    let count = lines.edge(e)?;
-    proofs(alloc, lines, count)
+    let count = lines.head(b"edge", e, PREMISES)?;
+    proofs(alloc, lines, PREMISES as u32, count)
 }
 
 /// The proofs of so many edges.
 fn edges(alloc: Global, lines: &mut Reader, count: u32) -> Result<Items<Items<Proof>>, CertFault>
-    ensures { Reads (spec.repeated spec.edge_reader 0 count lines.old) result lines.new }
+    ensures { Reads (repeated spec.edge_reader 0 count lines.old) result lines.new }
 {
     let mut edges = Items::new(alloc);
     'edges: for e in 0..count {
@@ -94,6 +69,33 @@ fn annotated(alloc: Global, lines: &mut Reader, sizes: Sizes) -> Result<Annotate
     Ok(Annotated { rows, proofs })
 }
 
+/// Whether line `number` begins an alternative behind so many others, and is not the end.
+fn begins_at(line: &[u8], others: usize, number: u32) -> Result<bool, CertFault>
+    ensures value { result ≡ line_value (wanted.next others) spec.goes_on number (words line.now) }
+    ensures room { IfOk result (λ more. more ≡ true → others < ALTERNATIVES) }
+{
+    if line == b"end".as_slice() {
+        return Ok(false);
+    }
+    if !(line == b"alternative".as_slice()) {
+        return Err(CertFault::Form(number));
+    }
+    if others < ALTERNATIVES {
+        Ok(true)
+    } else {
+        Err(CertFault::Number(number))
+    }
+}
+
+/// Whether an alternative begins behind so many others; else the end was read.
+fn begins(lines: &mut Reader, others: usize) -> Result<bool, CertFault>
+    ensures reads { Reads (spec.begins others lines.old) result lines.new }
+    ensures room { IfOk result (λ more. more ≡ true → others < ALTERNATIVES) }
+{
+    let (number, line) = lines.line()?;
+    begins_at(line, others, number)
+}
+
 /// The alternatives, and the end behind them.
 fn alternatives(
     alloc: Global,
@@ -105,19 +107,31 @@ fn alternatives(
     ensures few { IfOk result (λ all. length all ≤ ALTERNATIVES) }
 {
     let mut all = Items::new(alloc);
-    'alternatives: while lines.begins(all.len())? {
+    'alternatives: while begins(lines, all.len())? {
         all.push(annotated(alloc, lines, sizes)?)?;
     }
     Ok(all)
 }
 
+/// The greatest sizes of a certificate.
+fn limits() -> Sizes
+    ensures value { result ≡ wanted.limits }
+    ensures small { AreSmall result }
+{
+    Sizes {
+        points: POINTS,
+        edges: EDGES,
+        variables: VARIABLES as u32,
+    }
+}
+
 /// The certificate that is left, and nothing behind it.
 fn whole(alloc: Global, lines: Reader) -> Result<Certificate, CertFault>
-    ensures { Gives (spec.certificate_reader lines.entry) result }
+    ensures { Gives (nothing_behind spec.certificate_reader lines.entry) result }
 {
     let mut lines = lines;
-    lines.version()?;
-    let sizes = lines.sizes()?;
+    lines.just(b"precond 1")?;
+    let sizes = lines.sizes(limits())?;
     let alternatives = alternatives(alloc, &mut lines, sizes)?;
     lines.end()?;
     Ok(Certificate {

@@ -1,70 +1,19 @@
 //! The text of a certificate.
 
-ghost use Rattle.std.specs.Prelude.{◌≡◌, ◌≤◌, ◌<◌, ◌++◌, [], ◌∷◌, codes, OnOk, IfOk, pos};
+ghost use Rattle.std.specs.Prelude.{◌≡◌, ◌≤◌, ◌++◌, OnOk, IfOk};
 ghost use Rattle.std.specs.List.{AllByRecursion, flat_map};
 ghost use Rattle.pc_rows.specs.Joins.{IsRows};
 ghost use Rattle.pc_rows.specs.Evidence.{IsProof};
-ghost use Rattle.pc_text.specs.Numerals.{numeral};
+ghost use Rattle.pc_lines.specs.Texts.{line_text, lines_text, numbered, sizes_line};
 ghost use Rattle.pc_certificate.specs.Certificate.{IsShowable, IsAnnotated};
-ghost use Rattle.pc_cert.specs.CertificateTexts.{counts, row_line, proof_line, point_lines, edge_lines, alternative_lines, line_text, lines_text, numbered, version_line, sizes_line, IsTextOf};
+ghost use Rattle.pc_cert.specs.CertificateTexts.{point_lines, edge_lines, alternative_lines, version_line, sizes_in, IsTextOf};
 
 use pc_certificate::{Annotated, Certificate};
-use pc_rows::{Proof, Row, Rows, VARIABLES};
+use pc_lines::{Sizes, push_head, push_proof, push_row, push_sizes};
+use pc_rows::{Proof, Rows, VARIABLES};
 use pc_text::{NoMemory, Text};
 use sqlite_items::Items;
 use std::alloc::Global;
-
-/// Appends a further numeral of a line.
-fn push_further(text: &mut Text, number: i128) -> Result<(), NoMemory>
-    ensures { OnOk result (text.new ≡ text.old ++ (codes " " ++ numeral number)) }
-{
-    text.push(b' ')?;
-    text.push_number(number)
-}
-
-/// Appends a further count of a line.
-fn push_count(text: &mut Text, count: u32) -> Result<(), NoMemory>
-    ensures { OnOk result (text.new ≡ text.old ++ (codes " " ++ numeral (pos count))) }
-{
-    push_further(text, i128::from(count))
-}
-
-/// Appends the line that begins the rows of a point or the proofs of an edge.
-fn push_head(text: &mut Text, name: &[u8], number: usize, count: usize) -> Result<(), NoMemory>
-    ensures { OnOk result (text.new ≡ text.old ++ line_text (counts name.now (number ∷ count ∷ []))) }
-{
-    text.push_all(name)?;
-    push_further(text, number as i128)?;
-    push_further(text, count as i128)?;
-    text.push(b'\n')
-}
-
-/// Appends the line of a row over so many variables.
-fn push_row(text: &mut Text, r: &Row, variables: u32) -> Result<(), NoMemory>
-    requires { variables ≤ VARIABLES }
-    ensures { OnOk result (text.new ≡ text.old ++ line_text (row_line variables r.now)) }
-{
-    text.push_number(r.constant())?;
-    'variables: for v in 0..variables {
-        push_further(text, r.coefficient(v))?;
-    }
-    text.push(b'\n')
-}
-
-/// Appends the line of a proof.
-fn push_proof(text: &mut Text, p: &Proof) -> Result<(), NoMemory>
-    ensures proof { IsProof p.now }
-    ensures added { OnOk result (text.new ≡ text.old ++ line_text (proof_line p.now)) }
-{
-    text.push_number(p.goal().get())?;
-    let parts = p.parts();
-    'parts: for i in 0..parts.len() {
-        let part = parts.at(i);
-        push_count(text, part.index)?;
-        push_further(text, part.multiplier.get())?;
-    }
-    text.push(b'\n')
-}
 
 /// Appends the lines of point `p`.
 fn push_point(text: &mut Text, variables: u32, p: usize, rows: &Rows) -> Result<(), NoMemory>
@@ -126,14 +75,16 @@ fn push_alternative(text: &mut Text, variables: u32, a: &Annotated) -> Result<()
 }
 
 /// Appends the lines with the version and the sizes.
-fn push_sizes(text: &mut Text, c: &Certificate) -> Result<(), NoMemory>
-    ensures { OnOk result (text.new ≡ text.old ++ (line_text version_line ++ line_text (sizes_line c.now))) }
+fn push_start(text: &mut Text, c: &Certificate) -> Result<(), NoMemory>
+    ensures { OnOk result (text.new ≡ text.old ++ (line_text version_line ++ line_text (sizes_line (sizes_in c.now)))) }
 {
-    text.push_all(b"precond 1\ngraph")?;
-    push_count(text, c.points)?;
-    push_count(text, c.edges)?;
-    push_count(text, c.variables)?;
-    text.push(b'\n')
+    text.push_all(b"precond 1\n")?;
+    let sizes = Sizes {
+        points: c.points,
+        edges: c.edges,
+        variables: c.variables,
+    };
+    push_sizes(text, sizes)
 }
 
 /// Appends the lines of alternatives.
@@ -161,7 +112,7 @@ pub fn show_certificate(alloc: Global, c: &Certificate) -> Result<Text, NoMemory
     ensures { IfOk result (λ text. IsTextOf text c.now) }
 {
     let mut text = Text::new(alloc);
-    push_sizes(&mut text, c)?;
+    push_start(&mut text, c)?;
     push_alternatives(&mut text, c.variables, c.alternatives.as_slice())?;
     text.push_all(b"end\n")?;
     Ok(text)

@@ -1,2 +1,3 @@
-pub mod Telling
-pub mod Over
+mod Over
+mod Telling
+mod QuickConditions

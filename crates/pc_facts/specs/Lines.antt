@@ -6,7 +6,7 @@ use Rattle.pc_text.specs.Numerals.{numeral}
 use Rattle.pc_text.specs.declared.place.Place.{Place}
 use Rattle.pc_rows.specs.Joins.{is_at_most}
 use Rattle.pc_rows.specs.Linear.{Linear, first_of, is_number}
-use Rattle.pc_cert.specs.Conditions.{rows_text}
+use Rattle.pc_condition.specs.Conditions.{rows_text}
 use Rattle.pc_flow.specs.declared.point.PointInfo.{PointInfo}
 
 -- the row has no variable from number n on: without these it is the same

@@ -1,8 +1,8 @@
-//! What is known at each point of a graph, as text: one line for each point.
+//! What is known at each point of a graph, and what is enough at its entry, as text.
 #![tactic(auto)]
 
-mod lines;
-mod rows;
+mod facts;
+mod quick;
 
-pub use lines::show_facts;
-pub use rows::text_of_rows;
+pub use facts::show_facts;
+pub use quick::show_quick;

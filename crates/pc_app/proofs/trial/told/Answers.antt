@@ -1,7 +1,7 @@
 use Rattle.std.proofs.Common.{◌≡◌, ◌++◌, ◌∙◌, length, ap, sym, rules}
 use Rattle.std.proofs.lemmas.List.{length-map}
 use Rattle.pc_certificate.specs.Certificate.{condition_of, entry_rows}
-use Rattle.pc_cert.specs.Conditions.{condition_text}
+use Rattle.pc_condition.specs.Conditions.{condition_text}
 use Rattle.pc_gen.specs.Summary.{summary_text}
 use Rattle.pc_app.proofs.InferLemmas.{says}
 use Rattle.pc_app.proofs.TrialLemmas.{told_is}

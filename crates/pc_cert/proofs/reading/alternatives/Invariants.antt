@@ -1,7 +1,7 @@
 use Rattle.std.proofs.Common.{◌≡◌, ◌≤◌, ◌+◌, ◌-◌, length}
 use Rattle.pc_certificate.specs.declared.certificate.TheConstants.{ALTERNATIVES}
 use Rattle.pc_cert.specs.Readers.{alternatives_reader}
-use Rattle.pc_cert.proofs.Repeats.{behind}
+use Rattle.pc_lines.proofs.Repeats.{behind}
 use Rattle.pc_cert.proofs.reading.alternatives.Given as goal
 
 abbrev pub invariant-alternatives : goal.invariant-alternatives

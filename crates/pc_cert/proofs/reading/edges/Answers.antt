@@ -1,8 +1,9 @@
 use Rattle.std.proofs.Common.{◌≡◌, ◌∙◌, sym, Err}
 use Rattle.std.proofs.lemmas.Result.{err_from_is_err_and}
-use Rattle.pc_cert.specs.Readers.{edge_reader, repeated}
-use Rattle.pc_cert.proofs.Repeats.{turn, turn_fault}
-use Rattle.pc_cert.proofs.Told.{reads_on}
+use Rattle.pc_lines.specs.Readers.{repeated}
+use Rattle.pc_cert.specs.Readers.{edge_reader}
+use Rattle.pc_lines.proofs.Repeats.{turn, turn_fault}
+use Rattle.pc_lines.proofs.Told.{reads_on}
 use Rattle.pc_cert.proofs.reading.edges.Goals as goal
 
 pub returns-in_err-edge : goal.returns-in_err-edge

@@ -1,6 +1,7 @@
 use Rattle.std.proofs.Common.{◌≡◌, ◌-◌}
-use Rattle.pc_cert.specs.Readers.{repeated, edge_reader}
-use Rattle.pc_cert.proofs.Repeats.{behind}
+use Rattle.pc_lines.specs.Readers.{repeated}
+use Rattle.pc_cert.specs.Readers.{edge_reader}
+use Rattle.pc_lines.proofs.Repeats.{behind}
 use Rattle.pc_cert.proofs.reading.edges.Given as goal
 
 abbrev pub invariant-edges : goal.invariant-edges

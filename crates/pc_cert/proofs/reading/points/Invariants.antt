@@ -1,6 +1,7 @@
 use Rattle.std.proofs.Common.{◌≡◌, ◌-◌}
-use Rattle.pc_cert.specs.Readers.{repeated, point_reader}
-use Rattle.pc_cert.proofs.Repeats.{behind}
+use Rattle.pc_lines.specs.Readers.{repeated}
+use Rattle.pc_cert.specs.Readers.{point_reader}
+use Rattle.pc_lines.proofs.Repeats.{behind}
 use Rattle.pc_cert.proofs.reading.points.Given as goal
 
 abbrev pub invariant-points : goal.invariant-points

@@ -1,7 +1,9 @@
 use Rattle.std.proofs.Common.{◌≡◌, ◌∙◌, ◌++◌, ap, subst}
 use Rattle.std.specs.Prelude.{OnOk}
-use Rattle.pc_cert.specs.CertificateTexts.{point_lines, edge_lines, numbered, lines_text, alternative_lines}
-use Rattle.pc_cert.proofs.Shown.{two_parts, added_by}
+use Rattle.pc_lines.specs.Texts.{numbered, lines_text}
+use Rattle.pc_cert.specs.CertificateTexts.{point_lines, edge_lines, alternative_lines}
+use Rattle.pc_lines.proofs.Shown.{added_by}
+use Rattle.pc_cert.proofs.TwoParts.{two_parts}
 use Rattle.pc_cert.proofs.showing.push_alternative.Goals as goal
 
 pub returns-clause-added : goal.returns-clause-added

@@ -1,7 +1,8 @@
 use Rattle.std.proofs.Common.{◌≡◌, ◌++◌, take}
 use Rattle.std.specs.List.{AllByRecursion, flat_map}
 use Rattle.pc_certificate.specs.Certificate.{IsAnnotated}
-use Rattle.pc_cert.specs.CertificateTexts.{lines_text, alternative_lines}
+use Rattle.pc_lines.specs.Texts.{lines_text}
+use Rattle.pc_cert.specs.CertificateTexts.{alternative_lines}
 use Rattle.pc_cert.proofs.showing.push_alternatives.Given as goal
 
 abbrev pub invariant-alternatives : goal.invariant-alternatives

@@ -2,7 +2,7 @@ use Rattle.std.proofs.Common.{◌≡◌, ◌++◌, ◌∷◌, [], take, map, len
 use Rattle.std.specs.Prelude.{codes}
 use Rattle.std.specs.List.{AllByRecursion}
 use Rattle.pc_rows.specs.Evidence.{IsProof}
-use Rattle.pc_cert.specs.CertificateTexts.{counts, line_text, lines_text, proof_line}
+use Rattle.pc_lines.specs.Texts.{counts, line_text, lines_text, proof_line}
 use Rattle.pc_cert.proofs.showing.push_edge.Given as goal
 
 abbrev pub invariant-proofs : goal.invariant-proofs

@@ -1,8 +1,9 @@
 use Rattle.std.proofs.Common.{sym, ap, ◌∙◌, ◌++◌, subst}
 use Rattle.std.specs.List.{AllByRecursion}
 use Rattle.pc_rows.specs.Evidence.{IsProof}
-use Rattle.pc_cert.specs.CertificateTexts.{edge_lines, lines_text}
-use Rattle.pc_cert.proofs.Shown.{numbered_step, all_more}
+use Rattle.pc_lines.specs.Texts.{lines_text}
+use Rattle.pc_cert.specs.CertificateTexts.{edge_lines}
+use Rattle.pc_lines.proofs.Shown.{numbered_step, all_more}
 use Rattle.pc_cert.proofs.showing.push_edges.Goals as goal
 
 pub edges-preserved : goal.edges-preserved

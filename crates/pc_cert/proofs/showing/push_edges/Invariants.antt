@@ -1,7 +1,8 @@
 use Rattle.std.proofs.Common.{◌≡◌, ◌++◌, take}
 use Rattle.std.specs.List.{AllByRecursion}
 use Rattle.pc_rows.specs.Evidence.{IsProof}
-use Rattle.pc_cert.specs.CertificateTexts.{lines_text, numbered, edge_lines}
+use Rattle.pc_lines.specs.Texts.{lines_text, numbered}
+use Rattle.pc_cert.specs.CertificateTexts.{edge_lines}
 use Rattle.pc_cert.proofs.showing.push_edges.Given as goal
 
 abbrev pub invariant-edges : goal.invariant-edges

@@ -1,8 +1,8 @@
 use Rattle.std.proofs.Common.{◌<◌, ◌∷◌, [], length, arith}
 use Rattle.std.specs.Prelude.{codes}
 use Rattle.std.proofs.lemmas.Option.{get_or_from_slice_get}
-use Rattle.pc_cert.specs.CertificateTexts.{counts, line_text, row_line}
-use Rattle.pc_cert.proofs.Shown.{line_step}
+use Rattle.pc_lines.specs.Texts.{counts, line_text, row_line}
+use Rattle.pc_lines.proofs.Shown.{line_step}
 use Rattle.pc_cert.proofs.showing.push_point.Goals as goal
 
 pub rows-preserved : goal.rows-preserved

@@ -1,6 +1,6 @@
 use Rattle.std.proofs.Common.{◌≡◌, ◌++◌, ◌∷◌, [], take, map, length}
 use Rattle.std.specs.Prelude.{codes}
-use Rattle.pc_cert.specs.CertificateTexts.{counts, line_text, lines_text, row_line}
+use Rattle.pc_lines.specs.Texts.{counts, line_text, lines_text, row_line}
 use Rattle.pc_cert.proofs.showing.push_point.Given as goal
 
 abbrev pub invariant-rows : goal.invariant-rows

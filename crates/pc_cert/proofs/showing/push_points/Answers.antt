@@ -1,7 +1,7 @@
 use Rattle.std.proofs.Common.{sym}
 use Rattle.pc_rows.specs.Joins.{IsRows}
 use Rattle.pc_cert.specs.CertificateTexts.{point_lines}
-use Rattle.pc_cert.proofs.Shown.{numbered_step, all_more}
+use Rattle.pc_lines.proofs.Shown.{numbered_step, all_more}
 use Rattle.pc_cert.proofs.showing.push_points.Goals as goal
 
 pub points-preserved : goal.points-preserved

@@ -1,7 +1,0 @@
-use Rattle.std.proofs.Common.{◌≡◌, ◌-◌}
-use Rattle.pc_cert.specs.Readers.{repeated, proof_reader}
-use Rattle.pc_cert.proofs.Repeats.{behind}
-use Rattle.pc_cert.proofs.reading.proofs.Given as goal
-
-abbrev pub invariant-proofs : goal.invariant-proofs
-invariant-proofs l = behind l.proofs (repeated (λ _. proof_reader) l.counter (l.count - l.counter) l.lines) ≡ repeated (λ _. proof_reader) 0 l.count l.fn.lines

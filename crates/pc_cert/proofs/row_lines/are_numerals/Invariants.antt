@@ -1,6 +1,0 @@
-use Rattle.std.proofs.Common.{◌≡◌, ◌-◌}
-use Rattle.pc_cert.specs.Forms.{are_numerals}
-use Rattle.pc_cert.proofs.row_lines.are_numerals.Given as goal
-
-abbrev pub invariant-words : goal.invariant-words
-invariant-words l = are_numerals (l.count - l.counter) l.words ≡ are_numerals l.count l.fn.words

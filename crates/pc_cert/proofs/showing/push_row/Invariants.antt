@@ -1,7 +1,0 @@
-use Rattle.std.proofs.Common.{◌≡◌, ◌++◌}
-use Rattle.pc_cert.specs.CertificateTexts.{row_line}
-use Rattle.pc_text.proofs.WordLists.{joined}
-use Rattle.pc_cert.proofs.showing.push_row.Given as goal
-
-abbrev pub invariant-variables : goal.invariant-variables
-invariant-variables l = l.text ≡ l.fn.text ++ joined (row_line l.v l.r)

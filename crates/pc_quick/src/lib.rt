@@ -1,7 +1,0 @@
-//! What is enough at the entry of a graph, as text: one line.
-#![tactic(auto)]
-
-mod line;
-mod parameters;
-
-pub use line::show_quick;
