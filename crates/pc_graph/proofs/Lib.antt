@@ -26,3 +26,12 @@ pub mod Straights
 pub mod Programs
 pub mod LoopFree
 pub mod StraightLoops
+pub mod Blocks
+pub mod Listed
+pub mod Parts
+pub mod Outs
+pub mod Known
+pub mod Draws
+pub mod Steps
+pub mod Whole
+pub mod Driving

@@ -1,5 +1,6 @@
 //! What the graphs of programs promise, as contracts of functions that do nothing.
 
+ghost use Rattle.pc_graph.specs.Choices.{ChoicesDrive};
 ghost use Rattle.pc_graph.specs.Corresponds.{StepsCorrespond};
 ghost use Rattle.pc_graph.specs.Marks.{LoopsAreMarked};
 ghost use Rattle.pc_graph.specs.Places.{PlacesAreTheirs};
@@ -62,4 +63,10 @@ pub fn paid_programs_are_safe()
 /// assertion.
 pub fn owed_is_violated()
     ensures { OwedIsViolated }
+{}
+
+/// Without loops, assumptions and tests but `*` the choices along a walk drive the program to where the walk is, and one more
+/// violates an assertion that leaves there and does not hold. Every walk has such choices.
+pub fn choices_drive()
+    ensures { ChoicesDrive }
 {}

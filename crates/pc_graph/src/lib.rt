@@ -12,7 +12,7 @@ mod lowering;
 mod row;
 
 pub use laws::{
-    checks_stand_alone, graphs_are_kept, loop_free_graphs, loops_are_marked,
+    checks_stand_alone, choices_drive, graphs_are_kept, loop_free_graphs, loops_are_marked,
     loops_have_their_heads, owed_is_violated, paid_programs_are_safe, places_are_theirs,
     steps_correspond, straight_graphs, straight_is_loop_free,
 };
