@@ -26,6 +26,10 @@ use Rattle.pc_graph.proofs.Outs.{Outs}
 use Rattle.pc_graph.proofs.Parts.{Parts}
 use Rattle.pc_graph.proofs.Unrolled.{step-if, step-while}
 
+pub cond_append : (b : Bool) (xs ys k : List Stmt) → (cond b xs ys ++ k) ≡ cond b (xs ++ k) (ys ++ k)
+cond_append true xs ys k = refl
+cond_append false xs ys k = refl
+
 -- of statements over v variables, with a list ρ for each point, in a graph g; `straight` says whether they have no tests but `*`;
 -- Heads has the heads of the loops, and Joins the edges that are no step
 module _ (v : ℕ) (ρ : ℕ → List Stmt) (g : List Arc) (straight : Bool) (Heads : ℕ → Type 0) (Joins : Arc → Type 0) where
@@ -133,10 +137,6 @@ module _ (v : ℕ) (ρ : ℕ → List Stmt) (g : List Arc) (straight : Bool) (He
 
   join : (p q : ℕ) → (p < q) ⊎ Heads q → ρ p ≡ ρ q → leaving p g ≡ arc p q (Test []) ∷ [] → Joins (arc p q (Test [])) → IsJoin (arc p q (Test []))
   join p q up same only member = record { what = refl; up = up; unmarked = refl; same = same; only = only; member = member }
-
-  cond_append : (b : Bool) (xs ys k : List Stmt) → (cond b xs ys ++ k) ≡ cond b (xs ++ k) (ys ++ k)
-  cond_append true xs ys k = refl
-  cond_append false xs ys k = refl
 
   pub kinds : (b : Block) (p : ℕ) (k : List Stmt) → Sane v b → (straight ≡ true → Straight b) → Listed ρ b p k → Outs g b p →
       Each (λ l. Heads l.head) (built b p (p + 1)).loops → Each Joins (built b p (p + 1)).joins → Parts IsJoin IsMove b p

@@ -35,3 +35,4 @@ pub mod Draws
 pub mod Steps
 pub mod Whole
 pub mod Driving
+pub mod Running

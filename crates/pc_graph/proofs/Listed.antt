@@ -127,7 +127,7 @@ module _ (ρ : ℕ → List Stmt) where
       (e, listed xs (p + 1) again h.0 (holds_left (p + 1 + 1) (listing xs again) _ h.1), listed more a.next k h2.0 h2.1)
 
   -- the lists are found by their places
-  holds_from : (xs : List (List Stmt)) (m : ℕ) → ((i : ℕ) → ρ (m + i) ≡ get_or xs i []) → Holds ρ m xs
+  pub holds_from : (xs : List (List Stmt)) (m : ℕ) → ((i : ℕ) → ρ (m + i) ≡ get_or xs i []) → Holds ρ m xs
   holds_from [] m h = tt
   holds_from (x ∷ xs) m h =
       let z : m + 0 ≡ m = omega arith in (

@@ -18,7 +18,7 @@ use Rattle.pc_graph.specs.Lowering.{graph, made, point_at, points_from, tried_at
 use Rattle.pc_graph.specs.Marks.{IsLoopAt, MarksLoops, LoopsAreMarked}
 use Rattle.pc_graph.specs.Rest.{rest, rests_of}
 use Rattle.pc_graph.specs.Straight.{ChecksStandAlone}
-use Rattle.pc_graph.proofs.Bridge.{holds_from}
+use Rattle.pc_graph.proofs.Listed.{holds_from}
 use Rattle.pc_graph.proofs.Graphs.{graph_kept, head_point, points-length}
 use Rattle.pc_graph.proofs.Lone.{behind_one}
 use Rattle.pc_graph.proofs.Marked.{Begins, Marked, before}

@@ -15,7 +15,7 @@ use Rattle.pc_graph.specs.declared.draft.Loop.{Loop}
 use Rattle.pc_graph.specs.Lowering.{Piece, Rule, one, assigned, rule, rule_step, rules, made, points_from}
 use Rattle.pc_graph.specs.Places.{first_place, nexts, IsMade, AreMade, PlacesAreTheirs}
 use Rattle.pc_graph.specs.Rest.{rest, rests, rests_of}
-use Rattle.pc_graph.proofs.Bridge.{holds_from}
+use Rattle.pc_graph.proofs.Listed.{holds_from}
 use Rattle.pc_graph.proofs.Pieces.{holds_left, holds_right}
 use Rattle.pc_graph.proofs.Tied.{Holds}
 use Rattle.pc_graph.proofs.Unrolled.{rule-if, rule-while, rests-if, rests-while, rests-set, rests-assert, rests-assume}
