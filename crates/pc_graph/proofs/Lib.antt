@@ -1,19 +1,10 @@
 pub mod TestWays
 pub mod Unrolled
-pub mod Tied
-pub mod Pieces
-pub mod Rules
 pub mod Bridge
 pub mod Within
-pub mod Lone
-pub mod Marked
-pub mod BranchMarks
-pub mod LoopMarks
-pub mod Marks
 pub mod Loops
 pub mod Places
 pub mod Ready
-pub mod Growing
 pub mod Drawing
 pub mod Weights
 pub mod Variables
@@ -36,3 +27,4 @@ pub mod Steps
 pub mod Whole
 pub mod Driving
 pub mod Running
+pub mod Numbers

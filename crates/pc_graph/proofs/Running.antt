@@ -57,7 +57,7 @@ leaving_in q (e ∷ es) = by (e.from == q) (each_more (λ x. In x es) (λ x. In 
     by true more = (inl refl, more)
     by false more = more
 
-members : (g : List Arc) (p : ℕ) (es : List Arc) → leaving p g ≡ es → Each (λ e. In e g) es
+pub members : (g : List Arc) (p : ℕ) (es : List Arc) → leaving p g ≡ es → Each (λ e. In e g) es
 members g p es is = subst (λ (z : List Arc). Each (λ e. In e g) z) is (leaving_in p g)
 
 pub order : (a b : ℕ) → (a < b) ⊎ (b ≤ a)
