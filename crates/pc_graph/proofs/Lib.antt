@@ -1,7 +1,6 @@
 pub mod TestWays
 pub mod Unrolled
 pub mod Bridge
-pub mod Within
 pub mod Loops
 pub mod Places
 pub mod Ready
