@@ -1,7 +1,6 @@
 -- A statement makes as many edges as the context rules count.
-use Rattle.std.proofs.Common.{◌≡◌, ℕ, ◌+◌, List, [], ◌∷◌, ◌++◌, length, Bool, true, false, refl, sym, ap, subst, ◌∙◌, arith, map, length-append, cond}
+use Rattle.std.proofs.Common.{◌≡◌, ℕ, ◌+◌, ◌≤◌, List, [], ◌∷◌, ◌++◌, length, Bool, true, false, refl, sym, ap, subst, ◌∙◌, arith, map, length-append, cond}
 use Rattle.std.specs.Prelude.{sum}
-use Rattle.std.specs.List.{AllByRecursion as Each}
 use Rattle.std.proofs.lemmas.List.Sums.{sum_by-cons}
 use Rattle.pc_text.specs.declared.place.Place.{Place}
 use Rattle.pc_language.specs.declared.operator.Op.{Op}
@@ -10,16 +9,15 @@ use Rattle.pc_rows.specs.Linear.{Linear}
 use Rattle.pc_program.specs.Forms.{form, rows_by, rows_of, rows_all}
 use Rattle.pc_program.specs.Sane.{is_either, rows_in, test_edges, edges_step, edges}
 use Rattle.pc_program.specs.declared.tree.Compare.{Compare}
+use Rattle.pc_program.specs.declared.tree.Stmt.{Stmt, roll-Stmt, fold-roll-Stmt}
+use Rattle.pc_program.specs.declared.tree.Stmt.TheOpen as stmt
 use Rattle.pc_program.specs.declared.tree.Test.{Test as Condition}
 use Rattle.pc_program.specs.declared.tree.Test.TheVariants as test
-use Rattle.pc_program.specs.declared.tree.Stmt.{Stmt, fold-roll-Stmt}
-use Rattle.pc_program.specs.declared.tree.Stmt.TheOpen as stmt
-use Rattle.pc_program.proofs.Stmts.{by_stmt, all_by}
-use Rattle.pc_flow.specs.Arc.{arc}
-use Rattle.pc_flow.specs.declared.what.What.TheVariants.{Test, Check}
-use Rattle.pc_graph.specs.Lowering.{Rule, one, tests, join_edges, assigned, rule, rule_step, rules}
+use Rattle.pc_flow.specs.Arc.{Arc, arc}
+use Rattle.pc_flow.specs.declared.what.What.TheVariants.{Test}
+use Rattle.pc_graph.specs.Lowering.{Piece, tests, join_edges, split, loop}
 use Rattle.pc_graph.specs.Ways.{is_lone, apart, ways_of, ways}
-use Rattle.pc_graph.proofs.Unrolled.{rule-if, rule-while}
+use Rattle.pc_graph.proofs.Blocks.{Single, assigns, asserts, assumes, Block, done, single, branch, cycle, single_stmt, stmts, built}
 
 rows_by_counted : (o : Op) (l r : Linear) → length (rows_by o l r) ≡ cond (is_either o) 2 1
 rows_by_counted op.Less l r = refl
@@ -49,70 +47,92 @@ ways_counted : (t : Condition) → length (ways t true) + length (ways t false) 
 ways_counted test.Any = refl
 ways_counted (test.All cs) = ways_of_counted (is_lone cs) (rows_all cs) ∙ ap (λ n. 1 + n) (rows_counted cs)
 
-pub tests-length : (b : Bool) (p q : ℕ) (ws : List (List Linear)) → length (tests b p q ws) ≡ length ws
+tests-length : (b : Bool) (p q : ℕ) (ws : List (List Linear)) → length (tests b p q ws) ≡ length ws
 tests-length b p q [] = refl
 tests-length b p q (w ∷ ws) = let h = tests-length b p q ws in omega arith
 
-abbrev CountedBy : ℕ → Rule → Type 0
-CountedBy k l = (p n : ℕ) → length (l p n).edges ≡ k
+single_counted : (place : Place) (x : Single) → edges (single_stmt place x) ≡ 1
+single_counted place (assigns v r) = fold-roll-Stmt ℕ edges_step (stmt.Set place v r)
+single_counted place (asserts cs) = fold-roll-Stmt ℕ edges_step (stmt.Assert place cs)
+single_counted place (assumes cs) = fold-roll-Stmt ℕ edges_step (stmt.Assume place cs)
 
-abbrev CountedOne : Stmt → Type 0
-CountedOne x = CountedBy (edges x) (rule x)
-
-counted_by : (k m : ℕ) (l r : Rule) → k ≡ m → l ≡ r → CountedBy m r → CountedBy k l
-counted_by k m l r ek el h = subst (λ k. CountedBy k l) (sym ek) (subst (λ (l : Rule). CountedBy m l) (sym el) h)
-
-list_counted : (ss : List Stmt) → Each CountedOne ss → CountedBy (sum (map edges ss)) (rules ss)
-list_counted [] all p n = refl
-list_counted (x ∷ ss) all p n =
-    let a = all.0 p n in
-    let b = list_counted ss all.1 (rule x p n).last (rule x p n).next in
-    length-append (rule x p n).edges (rules ss (rule x p n).last (rule x p n).next).edges ∙ ap (λ k. k + length (rules ss (rule x p n).last (rule x p n).next).edges) a ∙ ap (λ k. edges x + k) b ∙
-    sym (sum_by-cons (λ z. z) (edges x) (map edges ss))
-
-split_counted : (place : Place) (t : Condition) (xs ys : List Stmt) (j k : ℕ) → CountedBy j (rules xs) → CountedBy k (rules ys) →
-    CountedBy (test_edges t + 2 + j + k) (rule_step (stmt.If place t (map rule xs) (map rule ys)))
-split_counted place t xs ys j k hx hy p n =
-    let a = rules xs n (n + 1) in
-    let b = rules ys a.next (a.next + 1) in
+-- the edges of the rules of a test with two blocks, and of one with a block
+branch_long : (t : Condition) (p n m : ℕ) (xs ys ends more : List Arc) → length ((tests false p n (ways t true) ++ (xs ++ (tests false p m (ways t false) ++ (ys ++ ends)))) ++ more) ≡
+    test_edges t + length xs + length ys + length ends + length more
+branch_long t p n m xs ys ends more =
     let trues = tests false p n (ways t true) in
-    let falses = tests false p a.next (ways t false) in
-    let ends = join_edges a.last b.last b.next in
-    let h1 = hx n (n + 1) in
-    let h2 = hy a.next (a.next + 1) in
+    let falses = tests false p m (ways t false) in
     let e1 = tests-length false p n (ways t true) in
-    let e2 = tests-length false p a.next (ways t false) in
+    let e2 = tests-length false p m (ways t false) in
     let c = ways_counted t in
     omega (
       arith,
-      length-append trues (a.edges ++ (falses ++ (b.edges ++ ends))),
-      length-append a.edges (falses ++ (b.edges ++ ends)),
-      length-append falses (b.edges ++ ends),
-      length-append b.edges ends,
+      length-append (trues ++ (xs ++ (falses ++ (ys ++ ends)))) more,
+      length-append trues (xs ++ (falses ++ (ys ++ ends))),
+      length-append xs (falses ++ (ys ++ ends)),
+      length-append falses (ys ++ ends),
+      length-append ys ends,
     )
 
-loop_counted : (place : Place) (t : Condition) (tried : List Compare) (xs : List Stmt) (j : ℕ) → CountedBy j (rules xs) →
-    CountedBy (test_edges t + 1 + j) (rule_step (stmt.While place t tried (map rule xs)))
-loop_counted place t tried xs j hx p n =
-    let a = rules xs n (n + 1) in
+cycle_long : (t : Condition) (p n m : ℕ) (back : Arc) (xs more : List Arc) → length ((tests true p n (ways t true) ++ (xs ++ (back ∷ tests false p m (ways t false)))) ++ more) ≡
+    test_edges t + length xs + 1 + length more
+cycle_long t p n m back xs more =
     let trues = tests true p n (ways t true) in
-    let falses = tests false p a.next (ways t false) in
-    let h1 = hx n (n + 1) in
+    let falses = tests false p m (ways t false) in
     let e1 = tests-length true p n (ways t true) in
-    let e2 = tests-length false p a.next (ways t false) in
+    let e2 = tests-length false p m (ways t false) in
     let c = ways_counted t in
-    omega (arith, length-append trues (a.edges ++ (arc a.last p (Test []) ∷ falses)), length-append a.edges (arc a.last p (Test []) ∷ falses))
+    omega (arith, length-append (trues ++ (xs ++ (back ∷ falses))) more, length-append trues (xs ++ (back ∷ falses)), length-append xs (back ∷ falses))
 
-counted : (x : Stmt) → CountedOne x
-counted x = by_stmt CountedOne
-    (λ place v r. counted_by _ 1 _ (one place (assigned v r)) (fold-roll-Stmt ℕ edges_step (stmt.Set place v r)) (fold-roll-Stmt Rule rule_step (stmt.Set place v r)) (λ p n. refl))
-    (λ place t xs ys hx hy. counted_by _ (test_edges t + 2 + sum (map edges xs) + sum (map edges ys)) _ (rule_step (stmt.If place t (map rule xs) (map rule ys)))
-    (fold-roll-Stmt ℕ edges_step (stmt.If place t xs ys)) (rule-if place t xs ys) (split_counted place t xs ys (sum (map edges xs)) (sum (map edges ys)) (list_counted xs hx) (list_counted ys hy)))
-    (λ place t tried xs hx. counted_by _ (test_edges t + 1 + sum (map edges xs)) _ (rule_step (stmt.While place t tried (map rule xs)))
-    (fold-roll-Stmt ℕ edges_step (stmt.While place t tried xs)) (rule-while place t tried xs) (loop_counted place t tried xs (sum (map edges xs)) (list_counted xs hx)))
-    (λ place cs. counted_by _ 1 _ (one place (Check (rows_all cs))) (fold-roll-Stmt ℕ edges_step (stmt.Assert place cs)) (fold-roll-Stmt Rule rule_step (stmt.Assert place cs)) (λ p n. refl))
-    (λ place cs. counted_by _ 1 _ (one place (Test (rows_all cs))) (fold-roll-Stmt ℕ edges_step (stmt.Assume place cs)) (fold-roll-Stmt Rule rule_step (stmt.Assume place cs)) (λ p n. refl))
-    x
+pub counted : (b : Block) (p n : ℕ) → length (built b p n).edges ≡ sum (map edges (stmts b))
+counted done p n = refl
+counted (single place x more) p n =
+    let h = counted more n (n + 1) in
+    let e = single_counted place x in
+    let s = sum_by-cons (λ z. z) (edges (single_stmt place x)) (map edges (stmts more)) in
+    omega arith
+counted (branch place t xs ys more) p n =
+    let a = built xs n (n + 1) in
+    let b = built ys a.next (a.next + 1) in
+    let x = roll-Stmt (stmt.If place t (stmts xs) (stmts ys)) in
+    let f = counted xs n (n + 1) in
+    let g = counted ys a.next (a.next + 1) in
+    let h = counted more b.next (b.next + 1) in
+    let e : edges x ≡ test_edges t + 2 + sum (map edges (stmts xs)) + sum (map edges (stmts ys)) = fold-roll-Stmt ℕ edges_step (stmt.If place t (stmts xs) (stmts ys)) in
+    let s = sum_by-cons (λ z. z) (edges x) (map edges (stmts more)) in
+    let all = branch_long t p n a.next a.edges b.edges (join_edges a.last b.last b.next) (built more b.next (b.next + 1)).edges in
+    omega arith
+counted (cycle place t tried xs more) p n =
+    let a = built xs n (n + 1) in
+    let x = roll-Stmt (stmt.While place t tried (stmts xs)) in
+    let f = counted xs n (n + 1) in
+    let h = counted more a.next (a.next + 1) in
+    let e : edges x ≡ test_edges t + 1 + sum (map edges (stmts xs)) = fold-roll-Stmt ℕ edges_step (stmt.While place t tried (stmts xs)) in
+    let s = sum_by-cons (λ z. z) (edges x) (map edges (stmts more)) in
+    let all = cycle_long t p n a.next (arc a.last p (Test [])) a.edges (built more a.next (a.next + 1)).edges in
+    omega arith
 
-pub all_counted : (ss : List Stmt) (p n : ℕ) → length (rules ss p n).edges ≡ sum (map edges ss)
-all_counted ss p n = list_counted ss (all_by CountedOne counted ss) p n
+test_has : (t : Condition) → 1 ≤ test_edges t
+test_has test.Any = omega arith
+test_has (test.All cs) = omega arith
+
+-- no more points than edges
+pub few : (b : Block) (p n : ℕ) → (built b p n).next ≤ n + length (built b p n).edges
+few done p n = omega arith
+few (single place x more) p n = let h = few more n (n + 1) in omega arith
+few (branch place t xs ys more) p n =
+    let a = built xs n (n + 1) in
+    let b = built ys a.next (a.next + 1) in
+    let f = few xs n (n + 1) in
+    let g = few ys a.next (a.next + 1) in
+    let h = few more b.next (b.next + 1) in
+    let all = branch_long t p n a.next a.edges b.edges (join_edges a.last b.last b.next) (built more b.next (b.next + 1)).edges in
+    let has = test_has t in
+    omega arith
+few (cycle place t tried xs more) p n =
+    let a = built xs n (n + 1) in
+    let f = few xs n (n + 1) in
+    let h = few more a.next (a.next + 1) in
+    let all = cycle_long t p n a.next (arc a.last p (Test [])) a.edges (built more a.next (a.next + 1)).edges in
+    let has = test_has t in
+    omega arith

@@ -18,7 +18,7 @@ use Rattle.pc_flow.specs.declared.what.What.TheVariants.{Test}
 use Rattle.pc_graph.specs.Drawn.{Drawn, extended, with_edge, with_tests, branched, joined_at, turned, headed}
 use Rattle.pc_graph.specs.Lowering.{rule, rule_step, rules}
 use Rattle.pc_graph.specs.Ways.{apart, ways}
-use Rattle.pc_graph.proofs.Growing.{list_grows}
+use Rattle.pc_graph.proofs.Numbers.{rules_grow}
 use Rattle.pc_graph.proofs.Unrolled.{rule-if, rule-while}
 
 -- ---- an edge for the negation of each row
@@ -64,7 +64,7 @@ pub then_room : (place : Place) (t : Condition) (xs ys : List Stmt) (g : Drawn) 
 then_room place t xs ys g room =
     let next = if_next place t xs ys g.at g.next in
     let first = rules xs g.next (g.next + 1) in
-    let more = list_grows ys first.next (first.next + 1) in
+    let more = rules_grow ys first.next (first.next + 1) in
     omega arith
 
 -- ---- a list of statements, of which the first are done
@@ -94,7 +94,7 @@ doing_here n list i x g0 g lt e d =
     let step = drop_at list i x lt e in
     let Q : List Stmt → Type 0 = λ k. (rules k g.at g.next).next < 2 ^ 32 in
     let room = subst Q step d.room in
-    let more = list_grows (drop (i + 1) list) (rule x g.at g.next).last (rule x g.at g.next).next in (
+    let more = rules_grow (drop (i + 1) list) (rule x g.at g.next).last (rule x g.at g.next).next in (
       (and_parts (sane_stmt n x) (sane_stmts n (drop (i + 1) list)) (sym (ap (sane_stmts n) step) ∙ d.sane)).0,
       omega arith,
     )

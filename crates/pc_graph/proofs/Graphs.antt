@@ -1,27 +1,31 @@
 -- The graph of a program keeps what every graph keeps.
-use Rattle.std.proofs.Common.{◌≡◌, ◌≢◌, ℕ, ◌+◌, ◌<◌, ◌≤◌, ◌^◌, zero, suc, List, [], ◌∷◌, length, true, false, refl, ap, subst, ◌∙◌, arith, map, inl, inr}
-use Rattle.std.specs.Prelude.{◌⊎◌, ◌&&◌, ◌==◌, nat_le, sum}
+use Rattle.std.proofs.Common.{◌≡◌, ◌≢◌, ℕ, ◌+◌, ◌<◌, ◌≤◌, ◌^◌, zero, suc, List, [], ◌∷◌, length, true, false, refl, sym, ap, subst, ◌∙◌, arith, map, inl, inr}
+use Rattle.std.specs.Prelude.{◌⊎◌, ◌==◌, sum}
 use Rattle.std.specs.List.{AllByRecursion as Each, list_any}
 use Rattle.std.proofs.lemmas.Bool.Decides.{nat_tests}
-use Rattle.std.proofs.lemmas.Bool.{or_from, leb-true, and_parts}
+use Rattle.std.proofs.lemmas.Bool.{or_from}
 use Rattle.pc_text.specs.declared.place.Place.{Place}
-use Rattle.pc_rows.specs.declared.row.TheConstants.{VARIABLES}
 use Rattle.pc_rows.specs.Linear.{IsOver}
-use Rattle.pc_language.specs.declared.limits.TheConstants.{EDGES}
 use Rattle.pc_program.specs.declared.program.Program.{Program}
 use Rattle.pc_program.specs.declared.tree.Stmt.{Stmt}
-use Rattle.pc_program.specs.Sane.{sane_stmts, edges, edges_of}
+use Rattle.pc_program.specs.Sane.{edges}
 use Rattle.pc_graph.specs.declared.draft.Loop.{Loop}
 use Rattle.pc_flow.specs.declared.point.PointInfo.{PointInfo}
 use Rattle.pc_flow.specs.Arc.{Arc}
-use Rattle.pc_graph.specs.Drawn.{Drawn, extended, entered}
 use Rattle.pc_flow.specs.Flow.{Flow}
-use Rattle.pc_graph.specs.Lowering.{rules, made, graph, points_from}
+use Rattle.pc_flow.specs.Lists.{In}
 use Rattle.pc_flow.specs.Shape.{IsHead, LeadsUp, IsGraph}
-use Rattle.pc_graph.proofs.Counts.{all_counted}
-use Rattle.pc_flow.proofs.Lists.{each_more, each_in}
-use Rattle.pc_graph.proofs.Shapes.{HeadIn, IsUp, IsLoop, Shaped, all_shaped}
+use Rattle.pc_flow.proofs.Lists.{each_more, each_of_members}
+use Rattle.pc_graph.specs.Drawn.{Drawn, extended, entered}
+use Rattle.pc_graph.specs.Lowering.{Piece, rules, made, graph, points_from}
+use Rattle.pc_graph.proofs.Blocks.{spans}
+use Rattle.pc_graph.proofs.Counts.{counted, few}
+use Rattle.pc_graph.proofs.Listed.{body_of, body_is, made_is}
+use Rattle.pc_graph.proofs.Numbers.{points}
+use Rattle.pc_graph.proofs.Outs.{From}
+use Rattle.pc_graph.proofs.Shapes.{IsLoop, loops_over, edge_over, edge_rises}
 use Rattle.pc_graph.proofs.Variables.{points_over}
+use Rattle.pc_graph.proofs.Whole.{HeadIn, keeps, body_sane, edges_ranged, known, between}
 
 -- ---- points
 
@@ -44,37 +48,47 @@ no_head v (l ∷ loops) h = or_from (l.head == 0) (list_any (λ l. l.head == 0) 
 
 -- ---- a program
 
-pub record Keeps (p : Program) : Type 0 where
-  pub params : p.names.params ≤ length p.names.names
-  pub variables : length p.names.names ≤ VARIABLES
-  pub sane : sane_stmts (length p.names.names) p.body ≡ true
-  pub edges : 1 + sum (map edges p.body) ≤ EDGES
+-- what the rules make of it
+pub record MadeShape (p : Program) : Type 0 where
+  pub next : (made p).next ≡ (made p).last + 1
+  pub points : (made p).next ≡ 2 + length (made p).places
+  pub few : (made p).next ≤ 2 + length (made p).edges
+  pub count : length (made p).edges ≡ sum (map edges p.body)
+  pub loops : Each (IsLoop (length p.names.names)) (made p).loops
 
-pub keeps : (p : Program) → Keeps p
-keeps p =
-    let n = length p.names.names in
-    let a = and_parts (nat_le p.names.params n) (nat_le n VARIABLES && (sane_stmts n p.body && nat_le (edges_of p.body) EDGES)) p.sane in
-    let b = and_parts (nat_le n VARIABLES) (sane_stmts n p.body && nat_le (edges_of p.body) EDGES) a.1 in
-    let c = and_parts (sane_stmts n p.body) (nat_le (edges_of p.body) EDGES) b.1 in
-    record { params = leb-true _ _ a.0; variables = leb-true _ _ b.0; sane = c.0; edges = leb-true _ _ c.1 }
+pub made_shape : (p : Program) → MadeShape p
+made_shape p =
+    let b = body_of p in
+    let is = sym (made_is p) in
+    let v = length p.names.names in
+    record {
+      next = subst (λ (z : Piece). z.next ≡ z.last + 1) is (spans b 1).next;
+      points = subst (λ (z : Piece). z.next ≡ 2 + length z.places) is (points b 1 2);
+      few = subst (λ (z : Piece). z.next ≤ 2 + length z.edges) is (few b 1 2);
+      count = subst (λ (z : Piece). length z.edges ≡ sum (map edges p.body)) is (counted b 1 2 ∙ ap (λ (z : List Stmt). sum (map edges z)) (body_is p));
+      loops = subst (λ (z : Piece). Each (IsLoop v) z.loops) is (loops_over v b 1 (body_sane p) (omega arith));
+    }
 
-pub made_shape : (p : Program) → Shaped (length p.names.names) 2 (made p)
-made_shape p = let k = keeps p in all_shaped (length p.names.names) k.variables p.body 1 2 k.sane (omega arith) (omega arith)
-
-leads : (p : Program) (m : ℕ) (e : Arc) → m ≡ length (graph p).points → IsUp (length p.names.names) m (made p).loops e → LeadsUp (graph p).points (graph p).variables e
-leads p m e long up =
-    let places = p.place ∷ p.place ∷ (made p).places in
-    let same = points-length (made p).loops 0 places in
-    let leaves = up.leaves in
-    let reaches = up.reaches in
-    record { leaves = omega arith; reaches = omega arith; rises = by up.rises; over = up.over }
+leads : (p : Program) (e : Arc) → In e (made p).edges → LeadsUp (graph p).points (graph p).variables e
+leads p e m =
+    let f = made_shape p in
+    let f1 = f.next in
+    let f2 = f.points in
+    let same = points-length (made p).loops 0 (p.place ∷ p.place ∷ (made p).places) in
+    let r = between p e m in
+    let r1 = r.1 in
+    let r3 = r.3 in
+    record { leaves = omega arith; reaches = omega arith; rises = by (edge_rises p e (known p e m)); over = (edge_over p e (known p e m)).0 }
   where
     by : (e.from < e.to) ⊎ HeadIn (made p).loops e.to → (e.from < e.to) ⊎ IsHead (graph p).points e.to
     by (inl h) = inl h
     by (inr h) =
+        let f = made_shape p in
+        let f1 = f.next in
+        let f2 = f.points in
         let places = p.place ∷ p.place ∷ (made p).places in
         let same = points-length (made p).loops 0 places in
-        let reaches = up.reaches in
+        let reaches = (between p e m).3 in
         inr (head_point (made p).loops 0 places e.to e.to (omega arith) (omega arith) h)
 
 pub graph_kept : (p : Program) → IsGraph (graph p)
@@ -85,11 +99,10 @@ graph_kept p =
     let f = made_shape p in
     let f1 = f.points in
     let f2 = f.few in
+    let f3 = f.count in
     let k1 = k.edges in
     let places = p.place ∷ p.place ∷ a.places in
     let same = points-length a.loops 0 places in
-    let count = all_counted p.body 1 2 in
-    let long : a.next ≡ length (graph p).points = omega arith in
     record {
       parameters = k.params;
       variables = k.variables;
@@ -97,12 +110,11 @@ graph_kept p =
       edges = omega arith;
       tried = points_over v a.loops 0 places (each_more (IsLoop v) (λ l. Each (IsOver v) l.tried) (λ l h. h.over) a.loops f.loops);
       enters = refl;
-      alone = each_more (IsUp v a.next a.loops) (λ e. e.from ≢ 0) (λ e up h. let away = up.away in omega arith) a.edges (f.edges a.next a.loops (omega arith) (each_in a.loops));
+      alone = each_more (From 1 a.last) (λ e. e.from ≢ 0) (λ e r h. let away = r.0 in omega arith) a.edges (edges_ranged p);
       entry = no_head v a.loops f.loops;
       leads = (
         record { leaves = omega arith; reaches = omega arith; rises = inl (omega arith); over = k.params },
-        each_more (IsUp (length p.names.names) a.next a.loops) (LeadsUp (graph p).points (graph p).variables) (λ e up. leads p a.next e long up) a.edges
-            (f.edges a.next a.loops (omega arith) (each_in a.loops)),
+        each_of_members (LeadsUp (graph p).points (graph p).variables) a.edges (leads p),
       );
     }
 
@@ -113,7 +125,7 @@ room p list params d e ed =
     let k1 = (keeps p).edges in
     let f = made_shape p in
     let f2 = f.few in
-    let count = all_counted p.body 1 2 in
+    let count = f.count in
     rw (ed, e) (omega arith)
 
 pub places_few : (p : Program) (list : List Stmt) (params : ℕ) (d g : Drawn) → list ≡ p.body → d ≡ entered p.place params → g ≡ extended d (rules list d.at d.next) →
@@ -123,7 +135,7 @@ places_few p list params d g e ed made_by =
     let f = made_shape p in
     let f1 = f.points in
     let f2 = f.few in
-    let count = all_counted p.body 1 2 in
+    let count = f.count in
     rw (made_by, ed, e) (omega arith)
 
 abbrev flow_of : ℕ → ℕ → List PointInfo → List Arc → Flow

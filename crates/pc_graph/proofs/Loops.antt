@@ -1,30 +1,32 @@
 -- The marks of a program's graph.
-use Rattle.std.proofs.Common.{◌≡◌, ◌≢◌, ℕ, zero, suc, ◌+◌, ◌≤◌, ◌==◌, List, [], ◌∷◌, length, Bool, true, false, cond, refl, sym, ap, subst, ◌∙◌, arith, inl, inr, append-nil, eq-eqb, Some, slice_get}
+use Rattle.std.proofs.Common.{◌≡◌, ◌≢◌, ℕ, zero, suc, ◌+◌, ◌<◌, ◌≤◌, ◌==◌, List, [], ◌∷◌, ◌++◌, length, Bool, true, false, cond, refl, sym, ap, subst, ◌∙◌, arith, inl, inr, Some, slice_get}
 use Rattle.std.specs.Prelude.{◌⊎◌, ◌||◌}
 use Rattle.std.specs.List.{AllByRecursion as Each, list_any}
-use Rattle.std.proofs.lemmas.Bool.{or_left, or_right}
 use Rattle.std.proofs.lemmas.Bool.Decides.{eqb_tells}
 use Rattle.pc_text.specs.declared.place.Place.{Place}
 use Rattle.pc_rows.specs.Linear.{Linear}
+use Rattle.pc_rows.proofs.Joining.{each_join}
 use Rattle.pc_program.specs.declared.program.Program.{Program}
+use Rattle.pc_program.specs.declared.tree.Stmt.{Stmt, roll-Stmt}
+use Rattle.pc_program.specs.declared.tree.Stmt.TheOpen as stmt
 use Rattle.pc_flow.specs.declared.point.PointInfo.{PointInfo}
-use Rattle.pc_flow.specs.declared.what.What.TheVariants.{Enter}
-use Rattle.pc_flow.specs.Arc.{Arc, arc}
+use Rattle.pc_flow.specs.declared.what.What.{What}
+use Rattle.pc_flow.specs.Arc.{Arc}
+use Rattle.pc_flow.specs.Incidence.{leaving}
 use Rattle.pc_flow.specs.Lists.{In}
-use Rattle.pc_flow.specs.Shape.{IsHead, LeadsUp, ChecksAlone}
+use Rattle.pc_flow.specs.Shape.{IsHead, IsCheck, IsAloneIfCheck, LeadsUp, ChecksAlone}
 use Rattle.pc_flow.proofs.Lists.{each_at, each_more, each_of_members}
 use Rattle.pc_graph.specs.declared.draft.Loop.{Loop}
-use Rattle.pc_graph.specs.Lowering.{graph, made, point_at, points_from, tried_at}
-use Rattle.pc_graph.specs.Marks.{IsLoopAt, MarksLoops, LoopsAreMarked}
-use Rattle.pc_graph.specs.Rest.{rest, rests_of}
+use Rattle.pc_graph.specs.Lowering.{Piece, graph, made, point_at, points_from, tried_at, tests}
+use Rattle.pc_graph.specs.Marks.{LeadsOn, IsLoopAt, MarksLoops, LoopsAreMarked}
+use Rattle.pc_graph.specs.Rest.{rest}
 use Rattle.pc_graph.specs.Straight.{ChecksStandAlone}
-use Rattle.pc_graph.proofs.Bridge.{holds_from}
+use Rattle.pc_graph.specs.Ways.{ways}
+use Rattle.pc_graph.proofs.Blocks.{Single, Block, done, single, branch, cycle, stmts, built, spans}
 use Rattle.pc_graph.proofs.Graphs.{graph_kept, head_point, points-length}
-use Rattle.pc_graph.proofs.Lone.{behind_one}
-use Rattle.pc_graph.proofs.Marked.{Begins, Marked, before}
-use Rattle.pc_graph.proofs.Marks.{all_marks}
-use Rattle.pc_graph.proofs.Shapes.{HeadIn}
-use Rattle.pc_graph.proofs.Within.{Within}
+use Rattle.pc_graph.proofs.Listed.{Listed, begins, body_of, made_is, program_listed}
+use Rattle.pc_graph.proofs.Outs.{Outs}
+use Rattle.pc_graph.proofs.Whole.{HeadIn, IsKnownOf, known, body_outs}
 
 -- the point with number b + q
 point_there : (loops : List Loop) (b : ℕ) (places : List Place) (q : ℕ) (point : PointInfo) → slice_get (points_from loops b places) q ≡ Some point →
@@ -61,56 +63,100 @@ others_none : (loops : List Loop) (b : ℕ) (places : List Place) → Each (λ p
 others_none loops b [] = tt
 others_none loops b (place ∷ places) = (none_tried loops b, others_none loops (b + 1) places)
 
-begins_is : (loops : List Loop) (q : ℕ) → Begins loops q → HeadIn loops q
-begins_is [] q h = absurd h
-begins_is (l ∷ loops) q (inl h) = or_left (l.head == q) (list_any (λ l. l.head == q) loops) (eq-eqb l.head q h)
-begins_is (l ∷ loops) q (inr h) = or_right (l.head == q) (list_any (λ l. l.head == q) loops) (begins_is loops q h)
+-- what holds of the edges that leave a point
+of_leaving : (P : Arc → Type 0) (q : ℕ) (es : List Arc) → Each P (leaving q es) → Each (λ e. e.from ≡ q → P e) es
+of_leaving P q [] h = tt
+of_leaving P q (e ∷ es) h = by (e.from == q) (eqb_tells e.from q) h (λ k. of_leaving P q es k)
+  where
+    by : (b : Bool) → ((b ≡ true) × (e.from ≡ q)) ⊎ ((b ≡ false) × (e.from ≡ q → ⊥)) → Each P (cond b (e ∷ leaving q es) (leaving q es)) →
+        (Each P (leaving q es) → Each (λ e. e.from ≡ q → P e) es) → Each (λ e. e.from ≡ q → P e) (e ∷ es)
+    by true k h go = ((λ same. h.0), go h.1)
+    by false (inl k) h go = absurd (cc)
+    by false (inr k) h go = ((λ same. absurd (k.1 same)), go h)
 
--- a point of the body is not the entry
-away : (m : ℕ) → (m ≡ 1) ⊎ (2 ≤ m) → 0 ≢ m
-away m (inl e) = λ same. omega arith
-away m (inr le) = λ same. omega arith
+module _ (ρ : ℕ → List Stmt) (g : List Arc) where
+  into_body : (p q : ℕ) (ws : List (List Linear)) (round after : List Stmt) → p < q → ρ q ≡ round → Each (λ e. LeadsOn ρ round after e.body e) (tests true p q ws)
+  into_body p q [] round after lt is = tt
+  into_body p q (w ∷ ws) round after lt is = ((lt, is), into_body p q ws round after lt is)
+
+  past : (p q : ℕ) (ws : List (List Linear)) (round after : List Stmt) → ρ q ≡ after → Each (λ e. LeadsOn ρ round after e.body e) (tests false p q ws)
+  past p q [] round after is = tt
+  past p q (w ∷ ws) round after is = (is, past p q ws round after is)
+
+  abbrev LoopIn : Loop → Type 0
+  LoopIn l = IsLoopAt ρ g l.head l.tried
+
+  loops_at : (b : Block) (p : ℕ) (k : List Stmt) → Listed ρ b p k → Outs g b p → Each LoopIn (built b p (p + 1)).loops
+  loops_at done p k l o = tt
+  loops_at (single place x more) p k l o = loops_at more (p + 1) k l.1 o.1
+  loops_at (branch place t xs ys more) p k l o =
+      let rest = stmts more ++ k in
+      let a = built xs (p + 1) (p + 1 + 1) in
+      let b = built ys a.next (a.next + 1) in
+      each_join LoopIn (a.loops ++ b.loops) _ (each_join LoopIn a.loops b.loops (loops_at xs (p + 1) rest l.1 o.1) (loops_at ys a.next rest l.2 o.3)) (loops_at more b.next k l.3 o.5)
+  loops_at (cycle place t tried xs more) p k l o =
+      let rest = stmts more ++ k in
+      let again = roll-Stmt (stmt.While place t tried (stmts xs)) ∷ rest in
+      let a = built xs (p + 1) (p + 1 + 1) in
+      let Leads = λ (e : Arc). LeadsOn ρ (stmts xs ++ again) rest e.body e in
+      (
+        record {
+          place = place;
+          test = t;
+          hints = tried;
+          body = stmts xs;
+          after = rest;
+          here = l.0;
+          tries = refl;
+          leads = of_leaving Leads p g (subst (λ (es : List Arc). Each Leads es) (sym o.0)
+              (each_join Leads (tests true p (p + 1) (ways t true)) _ (into_body p (p + 1) (ways t true) (stmts xs ++ again) rest (omega arith) (begins ρ xs (p + 1) again l.1))
+              (past p a.next (ways t false) (stmts xs ++ again) rest (begins ρ more a.next k l.2))));
+        },
+        each_join LoopIn a.loops _ (loops_at xs (p + 1) again l.1 o.1) (loops_at more a.next k l.2 o.3),
+      )
 
 module _ (p : Program) where
-  marked : Marked (rest p) 1 2 [] (length (rests_of p.body [])) (made p)
-  marked = all_marks (rest p) p.body 1 2 [] (omega arith) (sym (append-nil p.body))
-      (holds_from (rest p) (rests_of p.body []) 2 (λ i. let e : 2 + i ≡ suc (suc i) = omega arith in ap (λ q. rest p q) e))
-
   heads : (q : ℕ) (point : PointInfo) → slice_get (graph p).points q ≡ Some point → point.head ≡ true → IsLoopAt (rest p) (graph p).edges q point.tried
   heads q point got is_head =
       let there = point_there (made p).loops 0 (p.place ∷ p.place ∷ (made p).places) q point got in
-      let same = there.1 in
       let e : 0 + q ≡ q = omega arith in
-      let at_q = same ∙ ap (λ (m : ℕ). point_at (made p).loops m there.0) e in
+      let at_q = there.1 ∙ ap (λ (m : ℕ). point_at (made p).loops m there.0) e in
       let l = loop_there (made p).loops q (sym (ap (λ (z : PointInfo). z.head) at_q) ∙ is_head) in
-      let h = each_at (λ l. IsLoopAt (rest p) (made p).edges l.head l.tried) (made p).loops l.0 marked.loops l.1 in
-      let w = each_at (λ l. Within 1 2 (made p).next (made p).last l.head) (made p).loops l.0 marked.heads l.1 in
-      let whole = before (rest p) (arc 0 1 (Enter p.names.params) ∷ []) (made p).edges l.0 (away l.0.head w.low, tt) h in
+      let all = subst (λ (z : Piece). Each (LoopIn (rest p) (graph p).edges) z.loops) (sym (made_is p)) (loops_at (rest p) (graph p).edges (body_of p) 1 [] (program_listed p) (body_outs p)) in
       subst (λ (rows : List Linear). IsLoopAt (rest p) (graph p).edges q rows) (sym (ap (λ (z : PointInfo). z.tried) at_q ∙ l.3))
-      (subst (λ (m : ℕ). IsLoopAt (rest p) (graph p).edges m l.0.tried) l.2 whole)
+      (subst (λ (m : ℕ). IsLoopAt (rest p) (graph p).edges m l.0.tried) l.2 (each_at (LoopIn (rest p) (graph p).edges) (made p).loops l.0 all l.1))
+
+  begins_loop : (e : Arc) → IsKnownOf p e → e.body ≡ true → HeadIn (made p).loops e.from
+  begins_loop e (inl h) body = let k = h.unmarked in absurd (cc)
+  begins_loop e (inr (inl h)) body = let k = h.unmarked in absurd (cc)
+  begins_loop e (inr (inr h)) body = h.marks body
 
   body_leaves_head : (e : Arc) → In e (graph p).edges → e.body ≡ true → IsHead (graph p).points e.from
   body_leaves_head e m body =
       let places = p.place ∷ p.place ∷ (made p).places in
-      let begins = each_at (λ e. e.body ≡ true → Begins (made p).loops e.from) (graph p).edges e ((λ e. absurd (cc)), marked.bodies) m body in
       let leaves = (each_at (LeadsUp (graph p).points (graph p).variables) (graph p).edges e (graph_kept p).leads m).leaves in
       let long = points-length (made p).loops 0 places in
-      head_point (made p).loops 0 places e.from e.from (omega arith) (omega (arith, leaves, long)) (begins_is (made p).loops e.from begins)
+      head_point (made p).loops 0 places e.from e.from (omega arith) (omega (arith, leaves, long)) (by m)
+    where
+      by : In e (graph p).edges → HeadIn (made p).loops e.from
+      by (inl same) = let k = ap (λ (x : Arc). x.body) same in absurd (cc)
+      by (inr m) = begins_loop e (known p e m) body
 
-  loops_marked : MarksLoops p
-  loops_marked = record {
-    heads = heads;
-    marked = each_of_members (λ e. e.body ≡ true → IsHead (graph p).points e.from) (graph p).edges body_leaves_head;
-    others = others_none (made p).loops 0 (p.place ∷ p.place ∷ (made p).places);
-  }
+  alone : (e : Arc) → IsKnownOf p e → IsAloneIfCheck (graph p).edges e
+  alone e (inl h) check = h.only
+  alone e (inr (inl h)) check = h.only
+  alone e (inr (inr h)) check = absurd (subst (λ (w : What). IsCheck w) h.what check)
 
-  checks_alone : ChecksAlone (graph p)
-  checks_alone =
-      behind_one (arc 0 1 (Enter p.names.params)) (made p).edges (λ check. check)
-      (each_more (λ e. Within 1 2 (made p).next (made p).last e.from) (λ e. 0 ≢ e.from) (λ e w. away e.from w.low) (made p).edges marked.edges) marked.checks
+  alone_at : (e : Arc) → In e (graph p).edges → IsAloneIfCheck (graph p).edges e
+  alone_at e (inl same) = subst (IsAloneIfCheck (graph p).edges) (sym same) (λ check. absurd check)
+  alone_at e (inr m) = alone e (known p e m)
 
 pub loops_are_marked : LoopsAreMarked
-loops_are_marked p = loops_marked p
+loops_are_marked p = record {
+  heads = heads p;
+  marked = each_of_members (λ e. e.body ≡ true → IsHead (graph p).points e.from) (graph p).edges (body_leaves_head p);
+  others = others_none (made p).loops 0 (p.place ∷ p.place ∷ (made p).places);
+}
 
 pub checks_stand_alone : ChecksStandAlone
-checks_stand_alone p = checks_alone p
+checks_stand_alone p = each_of_members (IsAloneIfCheck (graph p).edges) (graph p).edges (alone_at p)

@@ -9,7 +9,7 @@ use Rattle.pc_graph.specs.Straight.{PaidProgramsAreSafe, OwedIsViolated}
 use Rattle.pc_flow.specs.Walk.{IsEntry, entered}
 use Rattle.pc_graph.proofs.Bridge.{steps_correspond}
 use Rattle.pc_flow.proofs.Closed.{paid_is_safe}
-use Rattle.pc_graph.proofs.Graphs.{keeps}
+use Rattle.pc_graph.proofs.Whole.{keeps}
 use Rattle.pc_graph.proofs.Straights.{straight_graphs}
 use Rattle.pc_flow.proofs.Witness.{broken_has_walk}
 

@@ -1,25 +1,20 @@
 -- No two loops of a program share a head: no two edges lead back to one point.
-use Rattle.std.proofs.Common.{◌≡◌, ℕ, ◌+◌, ◌<◌, ◌≤◌, List, [], ◌∷◌, ◌++◌, true, false, refl, sym, subst, arith, map, inl, inr, Bool}
+use Rattle.std.proofs.Common.{◌≡◌, ℕ, ◌+◌, ◌<◌, ◌≤◌, List, [], ◌∷◌, ◌++◌, true, false, refl, sym, subst, arith, inl, inr, Bool}
 use Rattle.std.specs.Prelude.{◌⊎◌}
 use Rattle.std.specs.List.{AllByRecursion as Each}
 use Rattle.pc_text.specs.declared.place.Place.{Place}
 use Rattle.pc_rows.specs.Linear.{Linear}
 use Rattle.pc_rows.proofs.Joining.{each_join}
-use Rattle.pc_program.specs.Forms.{rows_all}
-use Rattle.pc_program.specs.declared.tree.Compare.{Compare}
-use Rattle.pc_program.specs.declared.tree.Test.{Test as Condition}
-use Rattle.pc_program.specs.declared.tree.Stmt.{Stmt, fold-roll-Stmt}
-use Rattle.pc_program.specs.declared.tree.Stmt.TheOpen as stmt
-use Rattle.pc_program.proofs.Stmts.{by_stmt, all_by}
+use Rattle.pc_program.proofs.Stmts.{all_by}
 use Rattle.pc_flow.specs.Arc.{Arc, arc}
-use Rattle.pc_flow.specs.declared.what.What.{What}
-use Rattle.pc_flow.specs.declared.what.What.TheVariants.{Enter, Test, Check}
-use Rattle.pc_graph.specs.Lowering.{Piece, Rule, one, tests, join_edges, assigned, rule, rule_step, rules, made}
+use Rattle.pc_flow.specs.declared.what.What.TheVariants.{Enter, Test}
 use Rattle.pc_flow.specs.Shape.{TurnsApart, NoSharedHead}
+use Rattle.pc_flow.proofs.Lists.{each_more}
+use Rattle.pc_graph.specs.Lowering.{Piece, tests, join_edges, split, loop, made}
 use Rattle.pc_graph.specs.Straight.{LoopsHaveTheirHeads}
 use Rattle.pc_graph.specs.Ways.{ways}
-use Rattle.pc_flow.proofs.Lists.{each_more}
-use Rattle.pc_graph.proofs.Unrolled.{rule-if, rule-while}
+use Rattle.pc_graph.proofs.Blocks.{Single, Block, done, single, branch, cycle, what_of, built, spans}
+use Rattle.pc_graph.proofs.Listed.{body_of, made_is}
 
 -- an edge that leads up, or back to a point from lo on, below hi
 abbrev BackTo : ℕ → ℕ → Arc → Type 0
@@ -80,95 +75,47 @@ tests_up : (b : Bool) (p q : ℕ) (ws : List (List Linear)) → p < q → Each (
 tests_up b p q [] h = tt
 tests_up b p q (w ∷ ws) h = (h, tests_up b p q ws h)
 
--- ---- rules
+-- ---- statements
 
--- of a piece that is made at p, from the number n on: its loops are from p on, below its last point
-record Turned (p n : ℕ) (a : Piece) : Type 0 where
-  more : n ≤ a.next
-  from : p ≤ a.last
-  last : a.last < a.next
-  turns : Turns p a.last a.edges
-
-abbrev TurnedBy : Rule → Type 0
-TurnedBy l = (p n : ℕ) → p < n → Turned p n (l p n)
-
-abbrev TurnedOne : Stmt → Type 0
-TurnedOne x = TurnedBy (rule x)
-
-turned_by : (l m : Rule) → l ≡ m → TurnedBy m → TurnedBy l
-turned_by l m e h = subst TurnedBy (sym e) h
-
-list_turned : (ss : List Stmt) → Each TurnedOne ss → TurnedBy (rules ss)
-list_turned [] all p n h = record { more = omega arith; from = omega arith; last = h; turns = record { back = tt; own = tt } }
-list_turned (x ∷ ss) all p n h =
-    let a = rule x p n in
-    let f = all.0 p n h in
-    let f1 = f.more in
-    let f2 = f.from in
-    let b = rules ss a.last a.next in
-    let r = list_turned ss all.1 a.last a.next f.last in
-    let r1 = r.more in
-    let r2 = r.from in
-    record { more = omega arith; from = omega arith; last = r.last; turns = turns_join p a.last b.last a.edges b.edges f2 r2 f.turns r.turns }
-
-one_turned : (place : Place) (w : What) → TurnedBy (one place w)
-one_turned place w p n h = record { more = omega arith; from = omega arith; last = omega arith; turns = ups p n (arc p n w ∷ []) (h, tt) }
-
-split_turned : (place : Place) (t : Condition) (xs ys : List Stmt) → TurnedBy (rules xs) → TurnedBy (rules ys) → TurnedBy (rule_step (stmt.If place t (map rule xs) (map rule ys)))
-split_turned place t xs ys hx hy p n h =
-    let a = rules xs n (n + 1) in
-    let f = hx n (n + 1) (omega arith) in
-    let f1 = f.more in
-    let f2 = f.from in
-    let f3 = f.last in
-    let b = rules ys a.next (a.next + 1) in
-    let r = hy a.next (a.next + 1) (omega arith) in
-    let r1 = r.more in
-    let r2 = r.from in
-    let r3 = r.last in
-    let trues = tests false p n (ways t true) in
+turned : (b : Block) (p : ℕ) → Turns p (built b p (p + 1)).last (built b p (p + 1)).edges
+turned done p = record { back = tt; own = tt }
+turned (single place x more) p =
+    let m = built more (p + 1) (p + 1 + 1) in
+    let h1 = (spans more (p + 1)).up in
+    turns_join p (p + 1) m.last (arc p (p + 1) (what_of x) ∷ []) m.edges (omega arith) h1 (ups p (p + 1) (arc p (p + 1) (what_of x) ∷ []) (omega arith, tt)) (turned more (p + 1))
+turned (branch place t xs ys more) p =
+    let a = built xs (p + 1) (p + 1 + 1) in
+    let b = built ys a.next (a.next + 1) in
+    let m = built more b.next (b.next + 1) in
+    let f1 = (spans xs (p + 1)).up in
+    let f2 = (spans xs (p + 1)).next in
+    let g1 = (spans ys a.next).up in
+    let g2 = (spans ys a.next).next in
+    let h1 = (spans more b.next).up in
+    let trues = tests false p (p + 1) (ways t true) in
     let falses = tests false p a.next (ways t false) in
     let ends = join_edges a.last b.last b.next in
-    record {
-      more = omega arith;
-      from = omega arith;
-      last = omega arith;
-      turns = turns_join p n b.next trues (a.edges ++ (falses ++ (b.edges ++ ends))) (omega arith) (omega arith) (ups p n trues (tests_up false p n (ways t true) h))
-          (turns_join n a.last b.next a.edges (falses ++ (b.edges ++ ends)) f2 (omega arith) f.turns
-          (turns_join a.last a.next b.next falses (b.edges ++ ends) (omega arith) (omega arith) (ups a.last a.next falses (tests_up false p a.next (ways t false) (omega arith)))
-          (turns_join a.next b.last b.next b.edges ends r2 (omega arith) r.turns (ups b.last b.next ends (omega arith, (r3, tt))))));
-    }
-
--- the edge back leads to a point before those of the block
-loop_turned : (place : Place) (t : Condition) (tried : List Compare) (xs : List Stmt) → TurnedBy (rules xs) → TurnedBy (rule_step (stmt.While place t tried (map rule xs)))
-loop_turned place t tried xs hx p n h =
-    let a = rules xs n (n + 1) in
-    let f = hx n (n + 1) (omega arith) in
-    let f1 = f.more in
-    let f2 = f.from in
-    let f3 = f.last in
-    let trues = tests true p n (ways t true) in
+    turns_join p b.next m.last (split place t p (p + 1) a b).edges m.edges (omega arith) h1
+    (turns_join p (p + 1) b.next trues (a.edges ++ (falses ++ (b.edges ++ ends))) (omega arith) (omega arith) (ups p (p + 1) trues (tests_up false p (p + 1) (ways t true) (omega arith)))
+    (turns_join (p + 1) a.last b.next a.edges (falses ++ (b.edges ++ ends)) f1 (omega arith) (turned xs (p + 1))
+    (turns_join a.last a.next b.next falses (b.edges ++ ends) (omega arith) (omega arith) (ups a.last a.next falses (tests_up false p a.next (ways t false) (omega arith)))
+    (turns_join a.next b.last b.next b.edges ends g1 (omega arith) (turned ys a.next) (ups b.last b.next ends (omega arith, (omega arith, tt))))))) (turned more b.next)
+turned (cycle place t tried xs more) p =
+    let a = built xs (p + 1) (p + 1 + 1) in
+    let m = built more a.next (a.next + 1) in
+    let f1 = (spans xs (p + 1)).up in
+    let f2 = (spans xs (p + 1)).next in
+    let h1 = (spans more a.next).up in
+    let trues = tests true p (p + 1) (ways t true) in
     let falses = tests false p a.next (ways t false) in
-    let turns = f.turns in
-    let wide : Turns n a.next a.edges = record { back = each_more (BackTo n a.last) (BackTo n a.next) (wider n n a.last a.next (omega arith) (omega arith)) a.edges turns.back; own = turns.own } in
-    record {
-      more = omega arith;
-      from = omega arith;
-      last = omega arith;
-      turns = turns_join p p a.next trues (a.edges ++ (arc a.last p (Test []) ∷ falses)) (omega arith) (omega arith) (ups p p trues (tests_up true p n (ways t true) h))
-          (turns_back p n a.next a.edges falses (arc a.last p (Test [])) refl h (omega arith) wide (tests_up false p a.next (ways t false) (omega arith)));
-    }
-
-turned : (x : Stmt) → TurnedOne x
-turned x = by_stmt TurnedOne
-    (λ place v r. turned_by _ (one place (assigned v r)) (fold-roll-Stmt Rule rule_step (stmt.Set place v r)) (one_turned place (assigned v r)))
-    (λ place t xs ys hx hy. turned_by _ (rule_step (stmt.If place t (map rule xs) (map rule ys))) (rule-if place t xs ys) (split_turned place t xs ys (list_turned xs hx) (list_turned ys hy)))
-    (λ place t tried xs hx. turned_by _ (rule_step (stmt.While place t tried (map rule xs))) (rule-while place t tried xs) (loop_turned place t tried xs (list_turned xs hx)))
-    (λ place cs. turned_by _ (one place (Check (rows_all cs))) (fold-roll-Stmt Rule rule_step (stmt.Assert place cs)) (one_turned place (Check (rows_all cs))))
-    (λ place cs. turned_by _ (one place (Test (rows_all cs))) (fold-roll-Stmt Rule rule_step (stmt.Assume place cs)) (one_turned place (Test (rows_all cs))))
-    x
+    let inner = turned xs (p + 1) in
+    let wide : Turns (p + 1) a.next a.edges = record { back = each_more (BackTo (p + 1) a.last) (BackTo (p + 1) a.next) (wider (p + 1) (p + 1) a.last a.next (omega arith) (omega arith)) a.edges inner.back; own = inner.own } in
+    turns_join p a.next m.last (loop place t tried p (p + 1) a).edges m.edges (omega arith) h1
+    (turns_join p p a.next trues (a.edges ++ (arc a.last p (Test []) ∷ falses)) (omega arith) (omega arith) (ups p p trues (tests_up true p (p + 1) (ways t true) (omega arith)))
+    (turns_back p (p + 1) a.next a.edges falses (arc a.last p (Test [])) refl (omega arith) (omega arith) wide (tests_up false p a.next (ways t false) (omega arith)))) (turned more a.next)
 
 pub loops_have_their_heads : LoopsHaveTheirHeads
-loops_have_their_heads p =
-    let h = list_turned p.body (all_by TurnedOne turned p.body) 1 2 (omega arith) in
-    (all_by (TurnsApart (arc 0 1 (Enter p.names.params))) (λ f b c. absurd (omega arith)) (made p).edges, h.turns.own)
+loops_have_their_heads p = (
+  all_by (TurnsApart (arc 0 1 (Enter p.names.params))) (λ f b c. absurd (omega arith)) (made p).edges,
+  subst (λ (z : Piece). NoSharedHead z.edges) (sym (made_is p)) (turned (body_of p) 1).own,
+)

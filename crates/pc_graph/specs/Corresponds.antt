@@ -2,15 +2,16 @@
 use Rattle.std.specs.Prelude.{◌≡◌, ℕ, ◌≤◌, ℤ, List, ◌⊎◌, ◌↔◌, length}
 use Rattle.std.specs.List.{AllByRecursion as Each}
 use Rattle.pc_text.specs.declared.place.Place.{Place}
-use Rattle.pc_program.specs.Machine.{Going, Violated, step, run_of, Safe}
-use Rattle.pc_rows.specs.Linear.{State}
+use Rattle.pc_program.specs.Machine.{Going, Violated, step, run, run_of, Safe}
+use Rattle.pc_rows.specs.Linear.{State, zero_from}
 use Rattle.pc_program.specs.declared.program.Program.{Program}
 use Rattle.pc_program.specs.declared.tree.Stmt.{Stmt}
 use Rattle.pc_flow.specs.Arc.{Arc}
+use Rattle.pc_flow.specs.Flow.{Flow}
 use Rattle.pc_flow.specs.Lists.{In}
 use Rattle.pc_graph.specs.Lowering.{graph, made, no_steps}
 use Rattle.pc_graph.specs.Rest.{rest}
-use Rattle.pc_flow.specs.Walk.{Pass, Walk, IsEntry, GraphSafe, Breaks, entered}
+use Rattle.pc_flow.specs.Walk.{Pass, Keeps, Walks, Walk, IsEntry, GraphSafe, Breaks, entered}
 
 -- a run that is still going has a walk to a point with the statements still to be run, in the same state
 abbrev pub RunsHaveWalks : Program → State → Type 0
@@ -57,3 +58,20 @@ pub record SameSteps (p : Program) (s : State) : Type 0 where
 
 abbrev pub StepsCorrespond : Type 0
 StepsCorrespond = (p : Program) (s : State) → IsEntry (graph p) s → SameSteps p s
+
+-- no list of choices leads from these statements, in this state, to a violation
+abbrev pub SafeFrom : List Stmt → State → Type 0
+SafeFrom k s = (cs : List ℤ) (q : Place) → run (Going k s) cs ≡ Violated q → ⊥
+
+-- no walk from the point in the state comes to an assertion that does not hold
+abbrev pub WalksAreSafe : Flow → ℕ → State → Type 0
+WalksAreSafe g q s = (es : List Arc) (r : ℕ) (t : State) → Walks g.edges q s es r t → (e : Arc) → In e g.edges → e.from ≡ r → Keeps e.what t
+
+-- at the entry the locals are 0
+abbrev pub MayStand : Flow → ℕ → State → Type 0
+MayStand g q s = q ≡ 0 → zero_from g.params s ≡ s
+
+-- what is still to be run at a point is safe from exactly the states in which no walk from the point comes to an assertion that
+-- does not hold
+abbrev pub RestsAreSafe : Type 0
+RestsAreSafe = (p : Program) (q : ℕ) (s : State) → MayStand (graph p) q s → SafeFrom (rest p q) s ↔ WalksAreSafe (graph p) q s

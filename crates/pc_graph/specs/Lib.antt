@@ -6,3 +6,4 @@ pub mod Corresponds
 pub mod Marks
 pub mod Places
 pub mod Straight
+pub mod Choices

@@ -1,6 +1,7 @@
 //! What the graphs of programs promise, as contracts of functions that do nothing.
 
-ghost use Rattle.pc_graph.specs.Corresponds.{StepsCorrespond};
+ghost use Rattle.pc_graph.specs.Choices.{ChoicesDrive};
+ghost use Rattle.pc_graph.specs.Corresponds.{StepsCorrespond, RestsAreSafe};
 ghost use Rattle.pc_graph.specs.Marks.{LoopsAreMarked};
 ghost use Rattle.pc_graph.specs.Places.{PlacesAreTheirs};
 ghost use Rattle.pc_graph.specs.Straight.{GraphsAreKept, LoopsHaveTheirHeads, ChecksStandAlone, StraightIsLoopFree, StraightGraphs, LoopFreeGraphs, PaidProgramsAreSafe, OwedIsViolated};
@@ -8,6 +9,12 @@ ghost use Rattle.pc_graph.specs.Straight.{GraphsAreKept, LoopsHaveTheirHeads, Ch
 /// A program and its graph take the same steps.
 pub fn steps_correspond()
     ensures { StepsCorrespond }
+{}
+
+/// What is still to be run at a point of a program's graph is safe from exactly the states in which no walk from the point comes
+/// to an assertion that does not hold. At the entry these are states in which the locals are 0.
+pub fn rests_are_safe()
+    ensures { RestsAreSafe }
 {}
 
 /// The graph of a program keeps what every graph keeps.
@@ -62,4 +69,10 @@ pub fn paid_programs_are_safe()
 /// assertion.
 pub fn owed_is_violated()
     ensures { OwedIsViolated }
+{}
+
+/// Without loops, assumptions and tests but `*` the choices along a walk drive the program to where the walk is, and one more
+/// violates an assertion that leaves there and does not hold. Every walk has such choices.
+pub fn choices_drive()
+    ensures { ChoicesDrive }
 {}

@@ -12,8 +12,9 @@ mod lowering;
 mod row;
 
 pub use laws::{
-    checks_stand_alone, graphs_are_kept, loop_free_graphs, loops_are_marked,
+    checks_stand_alone, choices_drive, graphs_are_kept, loop_free_graphs, loops_are_marked,
     loops_have_their_heads, owed_is_violated, paid_programs_are_safe, places_are_theirs,
+    rests_are_safe,
     steps_correspond, straight_graphs, straight_is_loop_free,
 };
 pub use lowering::lower;

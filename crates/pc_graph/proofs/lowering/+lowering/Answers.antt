@@ -3,7 +3,7 @@ use Rattle.std.proofs.lemmas.Result.{on_ok_weaker}
 use Rattle.pc_program.specs.Forms.{rows_all}
 use Rattle.pc_program.proofs.Weights.{weight, weights, item_smaller}
 use Rattle.pc_graph.proofs.Drawing.{if_done, while_done, then_room, doing_here, doing_next}
-use Rattle.pc_graph.proofs.Growing.{list_grows}
+use Rattle.pc_graph.proofs.Numbers.{rules_grow}
 use Rattle.pc_graph.proofs.Ready.{sane_slice, ready_few, assert_ready, assume_ready, if_ready, while_ready}
 use Rattle.pc_graph.proofs.Weights.{then_smaller}
 use Rattle.pc_graph.proofs.lowering.+lowering.Goals as goal
@@ -11,7 +11,7 @@ use Rattle.pc_graph.proofs.lowering.+lowering.Goals as goal
 pub lower_side-branch-draft-requires-clause-room : goal.lower_side-branch-draft-requires-clause-room
 lower_side-branch-draft-requires-clause-room t c =
     let g = c.args.draft.now in
-    let h = list_grows c.args.list.now g.next (g.next + 1) in
+    let h = rules_grow c.args.list.now g.next (g.next + 1) in
     let r = c.requires.room in
     omega arith
 
