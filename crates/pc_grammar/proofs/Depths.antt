@@ -217,14 +217,15 @@ names_bounded n = separated_bounded terminal.Comma n _ (one_bounded terminal.Nam
 locals_bounded : (n : ℕ) → Bounded n locals
 locals_bounded n = map_bounded flat n _ (many_bounded (the terminal.Var) n _ (map_bounded var_names n _ (both_bounded n _ _ (one_bounded terminal.Var n) (both_bounded n _ _ (names_bounded n) (one_bounded terminal.Semicolon n)))))
 
-program_bounded : (n : ℕ) → Bounded n (program n)
+pub program_bounded : (n : ℕ) → Bounded n (program n)
 program_bounded n = map_bounded program_of n _ (both_bounded n _ _ (one_bounded terminal.Entry n)
     (both_bounded n _ _ (enclosed_bounded n _ (map_bounded given n _ (maybe_bounded (the terminal.Name) n _ (names_bounded n))))
     (both_bounded n _ _ (one_bounded terminal.OpenBrace n) (both_bounded n _ _ (locals_bounded n)
     (both_bounded n _ _ (stmts_in_bounded n (paren n) (paren_bounded n) (block n) (block_bounded n)) (one_bounded terminal.CloseBrace n))))))
 
-pub never_deep : (i r : Text) → program (length i + 1) i ≡ Stops Deep r → ⊥
-never_deep i r e = at (subst (λ o. BoundedAt (length i + 1) i o) e (program_bounded (length i + 1) i))
+-- a parser that is given more levels of nesting than there are symbols
+pub never_deep : {A : Type 0} (p : ℕ → Parser A) → ((n : ℕ) → Bounded n (p n)) → (i r : Text) → p (length i + 1) i ≡ Stops Deep r → ⊥
+never_deep p bounded i r e = at (subst (λ o. BoundedAt (length i + 1) i o) e (bounded (length i + 1) i))
   where
     at : length i + 1 + length r ≤ length i → ⊥
     at h = absurd (omega arith)

@@ -19,13 +19,14 @@ use Rattle.pc_grammar.specs.declared.tree.ProgramTree.{ProgramTree}
 use Rattle.pc_grammar.specs.declared.fault.ParseFault.{ParseFault}
 use Rattle.pc_grammar.specs.declared.fault.ParseFault.TheVariants as fault
 use Rattle.pc_grammar.specs.Symbols.{symbols_of, keyword_of, byte_sign, pair_sign}
+use Rattle.pc_grammar.specs.Programs.{programs}
 use Rattle.pc_grammar.specs.Parsing.{parsed}
 
 -- ---- sources, and what their trees are made of
 
 -- what the tokens of a text mean, where it has tokens
 abbrev meaning_of : Bytes → Result (List Token) LexFault → Result ProgramTree ParseFault
-meaning_of s (Ok ts) = parsed (symbols_of s ts) (place_of s (length s))
+meaning_of s (Ok ts) = parsed programs (symbols_of s ts) (place_of s (length s))
 meaning_of s (Err e) = Err fault.NoMemory
 
 abbrev meaning : Bytes → Result ProgramTree ParseFault

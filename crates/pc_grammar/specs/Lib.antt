@@ -3,6 +3,7 @@ pub mod Terminals
 pub mod Expressions
 pub mod Rights
 pub mod Statements
+pub mod Starts
 pub mod Programs
 pub mod Reads
 pub mod Next

@@ -5,8 +5,9 @@ use Rattle.pc_grammar.specs.declared.symbol.Symbol.{Symbol}
 use Rattle.pc_language.specs.declared.terminal.Terminal.TheVariants as terminal
 use Rattle.pc_grammar.specs.declared.tree.StmtTree.{StmtTree}
 use Rattle.pc_grammar.specs.declared.tree.ProgramTree.{ProgramTree}
-use Rattle.pc_grammar.specs.Combinators.{Text, Parser, Lang, both, is_both, map_parser, is_map, maybe, is_maybe, many, is_many}
+use Rattle.pc_grammar.specs.Combinators.{Parser, Lang, both, is_both, map_parser, is_map, maybe, is_maybe, many, is_many}
 use Rattle.pc_grammar.specs.Terminals.{the, one, is_one}
+use Rattle.pc_grammar.specs.Starts.{Start}
 use Rattle.pc_grammar.specs.Statements.{separated, is_separated, enclosed, is_enclosed, stmts, is_stmts}
 
 -- ---- the trees
@@ -59,6 +60,8 @@ is_locals = is_map flat (is_many is_var_line)
 abbrev pub is_program : ℕ → Lang ProgramTree
 is_program n = is_map program_of (is_both (is_one terminal.Entry) (is_both is_params (is_both (is_one terminal.OpenBrace) (is_both is_locals (is_both (is_stmts n) (is_one terminal.CloseBrace))))))
 
--- the symbols derive the tree, at some depth of nesting
-abbrev pub Derives : ProgramTree → Text → Type 0
-Derives t w = (n : ℕ) × is_program n t w
+-- ---- as a start symbol
+
+-- their blocks are those of statements, of which there may be any number
+abbrev pub programs : Start
+programs = record { Tree = ProgramTree; language = is_program; parser = program; most = None }

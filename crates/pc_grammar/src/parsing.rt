@@ -3,6 +3,7 @@
 ghost use Rattle.std.specs.Prelude.{◌≡◌, Result};
 ghost use Rattle.pc_grammar.specs.declared.fault.ParseFault.{ParseFault};
 ghost use Rattle.pc_grammar.specs.declared.tree.ProgramTree.{ProgramTree};
+ghost use Rattle.pc_grammar.specs.Programs.{programs};
 ghost use Rattle.pc_grammar.specs.Parsing as spec;
 
 use crate::cursor::{Cursor, Stop};
@@ -35,7 +36,7 @@ fn read_front(
     past: Option<Past>,
     end: Place,
 ) -> Result<ProgramTree, ParseFault>
-    ensures { spec.Gives result (spec.answer past end (spec.read_whole front.now)) }
+    ensures { spec.Gives result (spec.answer past end (spec.read_whole programs front.now)) }
 {
     let mut cursor = Cursor { rest: front };
     match whole_program(alloc, &mut cursor, front.len() + 1) {
@@ -50,9 +51,9 @@ fn read_front(
 
 /// The answer that the executable definition computes.
 fn read(alloc: Global, symbols: &[Symbol], end: Place) -> Result<ProgramTree, ParseFault>
-    ensures { spec.Gives result (spec.parsed symbols.now end) }
+    ensures { spec.Gives result (spec.parsed programs symbols.now end) }
 {
-    match first_past(symbols) {
+    match first_past(None, symbols) {
         Some(past) => read_front(alloc, &symbols[..past.at + 1], Some(past), end),
         None => read_front(alloc, symbols, None, end),
     }
@@ -68,9 +69,9 @@ fn read(alloc: Global, symbols: &[Symbol], end: Place) -> Result<ProgramTree, Pa
 /// Only the symbols up to and with the first that is past a limit are read, so recursion is bounded
 /// whatever the text.
 pub fn parse(alloc: Global, symbols: &[Symbol], end: Place) -> Result<ProgramTree, ParseFault>
-    ensures meant { spec.MeansUnless result symbols.now end }
-    ensures only { (answer : Result ProgramTree ParseFault) → spec.Means symbols.now end answer → spec.Gives result answer }
-    ensures computed { spec.Gives result (spec.parsed symbols.now end) }
+    ensures meant { spec.MeansUnless programs result symbols.now end }
+    ensures only { (answer : Result ProgramTree ParseFault) → spec.Means programs symbols.now end answer → spec.Gives result answer }
+    ensures computed { spec.Gives result (spec.parsed programs symbols.now end) }
 {
     read(alloc, symbols, end)
 }

@@ -1,5 +1,7 @@
+use Rattle.pc_grammar.specs.Programs.{programs}
+use Rattle.pc_grammar.proofs.Starts.{programs_lawful}
 use Rattle.pc_grammar.proofs.Unique.{unambiguous}
 use Rattle.pc_grammar.proofs.laws.grammar_is_unambiguous.Goals as goal
 
 pub returns : goal.returns
-returns c = unambiguous
+returns c = unambiguous programs programs_lawful
