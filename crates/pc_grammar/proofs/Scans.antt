@@ -6,7 +6,8 @@ use Rattle.pc_grammar.specs.declared.fault.ParseFault.TheVariants as fault
 use Rattle.pc_grammar.specs.declared.limits.Counts.{Counts}
 use Rattle.pc_grammar.specs.declared.limits.Past.{Past}
 use Rattle.pc_grammar.specs.Combinators.{Text}
-use Rattle.pc_grammar.specs.Limits.{or_else, braces_after, signs_after, ands_after, blocks_after, is_sign, counted, and_on, counts, start, Within, FirstPast, one_later, past_or, first_past}
+use Rattle.pc_grammar.specs.Terminals.{has}
+use Rattle.pc_grammar.specs.Limits.{keywords, or_else, braces_after, signs_after, ands_after, blocks_after, is_sign, counted, and_on, counts, start, Within, FirstPast, one_later, past_or, first_past}
 use Rattle.std.proofs.lemmas.Bool.{cases_lt}
 
 -- ---- two fronts of one text
@@ -49,6 +50,13 @@ pub record IsPastAt (most : Option ℕ) (c : Counts) (i : Text) (p : Past) : Typ
   pub within : counts most c before (symbol ∷ rest) ≡ Ok counts_here
   pub past : counted most counts_here symbol rest ≡ Err p.fault
 
+-- what the counts after one more symbol are
+pub record IsCounted (c : Counts) (s : Symbol) (r : Text) (d : Counts) : Type 0 where
+  pub braces : braces_after c.braces s.terminal ≡ Some d.braces
+  pub signs : signs_after c.signs (is_sign s.terminal c.behind_keyword r) s.terminal ≡ Some d.signs
+  pub ands : ands_after c.ands s.terminal ≡ Some d.ands
+  pub behind : d.behind_keyword ≡ has keywords s.terminal
+
 -- ---- with at most so many blocks directly in the outermost braces, where that is limited
 
 module _ (most : Option ℕ) where
@@ -61,6 +69,27 @@ module _ (most : Option ℕ) where
 
   pub fault_of : (c : Counts) (s : Symbol) (r : Text) (f : ParseFault) → counted most c s r ≡ Err f → OfLimit f
   fault_of c s r f e = subst Counted e (counted_is c s r)
+
+  pub is_counted : (c d : Counts) (s : Symbol) (r : Text) → counted most c s r ≡ Ok d → IsCounted c s r d
+  is_counted c d s r h =
+      by (braces_after c.braces s.terminal) (signs_after c.signs (is_sign s.terminal c.behind_keyword r) s.terminal) (ands_after c.ands s.terminal) (blocks_after most c.blocks c.braces s.terminal) refl refl refl h
+    where
+      by : (x y z m : Option ℕ) → braces_after c.braces s.terminal ≡ x → signs_after c.signs (is_sign s.terminal c.behind_keyword r) s.terminal ≡ y → ands_after c.ands s.terminal ≡ z →
+          or_else x (fault.TooDeep s.place) (λ braces. or_else y (fault.TooLong s.place) (λ signs. or_else z (fault.TooLong s.place) (λ ands. or_else m (fault.TooManyProcesses s.place) (λ blocks.
+          Ok (record { braces = braces; signs = signs; ands = ands; blocks = blocks; behind_keyword = has keywords s.terminal }))))) ≡ Ok d →
+          IsCounted c s r d
+      by None y z m e f g h = absurd (cc)
+      by (Some x) None z m e f g h = absurd (cc)
+      by (Some x) (Some y) None m e f g h = absurd (cc)
+      by (Some x) (Some y) (Some z) None e f g h = absurd (cc)
+      by (Some x) (Some y) (Some z) (Some m) e f g h =
+          let same : record { braces = x; signs = y; ands = z; blocks = m; behind_keyword = has keywords s.terminal } ≡ d = cc in
+          record {
+            braces = e ∙ ap (λ (c : Counts). Some c.braces) same;
+            signs = f ∙ ap (λ (c : Counts). Some c.signs) same;
+            ands = g ∙ ap (λ (c : Counts). Some c.ands) same;
+            behind = sym (ap (λ (c : Counts). c.behind_keyword) same);
+          }
 
   -- ---- the counts go on from one text to the next
 
