@@ -132,7 +132,12 @@ fn ands_after(ands: usize, terminal: Terminal) -> Option<usize>
 
 /// The blocks directly in the outermost braces after one more symbol, where at most so many may
 /// stand there.
-fn blocks_after(most: Option<usize>, blocks: usize, braces: usize, terminal: Terminal) -> Option<usize>
+fn blocks_after(
+    most: Option<usize>,
+    blocks: usize,
+    braces: usize,
+    terminal: Terminal,
+) -> Option<usize>
     ensures { result ≡ spec.blocks_after most blocks braces terminal }
 {
     match most {
