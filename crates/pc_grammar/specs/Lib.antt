@@ -5,6 +5,7 @@ pub mod Rights
 pub mod Statements
 pub mod Starts
 pub mod Programs
+pub mod Parallels
 pub mod Reads
 pub mod Next
 pub mod Limits

@@ -40,8 +40,12 @@ var_line = map_parser var_names (both (one terminal.Var) (both names (one termin
 abbrev pub locals : Parser (List Symbol)
 locals = map_parser flat (many (the terminal.Var) var_line)
 
+-- parameters, and then in braces locals and what is read behind them
+abbrev pub source : {A : Type 0} → Parser A → Parser (Symbol × (List Symbol × (Symbol × (List Symbol × (A × Symbol)))))
+source q = both (one terminal.Entry) (both params (both (one terminal.OpenBrace) (both locals (both q (one terminal.CloseBrace)))))
+
 abbrev pub program : ℕ → Parser ProgramTree
-program n = map_parser program_of (both (one terminal.Entry) (both params (both (one terminal.OpenBrace) (both locals (both (stmts n) (one terminal.CloseBrace))))))
+program n = map_parser program_of (source (stmts n))
 
 -- ---- the languages
 
@@ -57,8 +61,11 @@ is_var_line = is_map var_names (is_both (is_one terminal.Var) (is_both is_names 
 abbrev pub is_locals : Lang (List Symbol)
 is_locals = is_map flat (is_many is_var_line)
 
+abbrev pub is_source : {A : Type 0} → Lang A → Lang (Symbol × (List Symbol × (Symbol × (List Symbol × (A × Symbol)))))
+is_source L = is_both (is_one terminal.Entry) (is_both is_params (is_both (is_one terminal.OpenBrace) (is_both is_locals (is_both L (is_one terminal.CloseBrace)))))
+
 abbrev pub is_program : ℕ → Lang ProgramTree
-is_program n = is_map program_of (is_both (is_one terminal.Entry) (is_both is_params (is_both (is_one terminal.OpenBrace) (is_both is_locals (is_both (is_stmts n) (is_one terminal.CloseBrace))))))
+is_program n = is_map program_of (is_source (is_stmts n))
 
 -- ---- as a start symbol
 

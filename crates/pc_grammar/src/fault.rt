@@ -12,8 +12,7 @@ pub enum ParseFault {
     /// A sign of an expression that has [`SIGNS`](crate::SIGNS) already, or the `&&` before a
     /// comparison of a conjunction that has [`COMPARISONS`](crate::COMPARISONS).
     TooLong(Place),
-    /// The `{` of a block too many, where it is said how many may stand directly in the outermost
-    /// braces: of a program that is not said.
+    /// The `{` of a process behind [`PROCESSES`](crate::PROCESSES) others. No program has this fault.
     TooManyProcesses(Place),
     /// There is no memory for the tree.
     NoMemory,

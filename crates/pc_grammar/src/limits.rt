@@ -10,6 +10,9 @@ use crate::fault::ParseFault;
 use crate::symbol::Symbol;
 use pc_language::{BRACES, COMPARISONS, SIGNS, Terminal};
 
+/// The most processes of a source.
+pub const PROCESSES: usize = 4;
+
 /// What was counted in the symbols before one.
 #[derive(Clone, Copy)]
 pub struct Counts {
