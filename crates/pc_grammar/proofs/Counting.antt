@@ -19,8 +19,8 @@ later_one : (n : ℕ) (o : Option Past) → later n (one_later o) ≡ later (n +
 later_one n None = refl
 later_one n (Some p) = ap (λ m. Some (record { at = m; fault = p.fault })) (omega arith)
 
-pub later_goes : (n : ℕ) (c d : Counts) (s : Symbol) (r : Text) → counted c s r ≡ Ok d → later n (first_past c (s ∷ r)) ≡ later (n + 1) (first_past d r)
-later_goes n c d s r e = rw e (later_one n (first_past d r))
+pub later_goes : (most : Option ℕ) (n : ℕ) (c d : Counts) (s : Symbol) (r : Text) → counted most c s r ≡ Ok d → later n (first_past most c (s ∷ r)) ≡ later (n + 1) (first_past most d r)
+later_goes most n c d s r e = rw e (later_one n (first_past most d r))
 
-pub later_stops : (n : ℕ) (c : Counts) (f : ParseFault) (s : Symbol) (r : Text) → counted c s r ≡ Err f → later n (first_past c (s ∷ r)) ≡ Some (record { at = n; fault = f })
-later_stops n c f s r e = rw e (ap (λ m. Some (record { at = m; fault = f })) (omega arith))
+pub later_stops : (most : Option ℕ) (n : ℕ) (c : Counts) (f : ParseFault) (s : Symbol) (r : Text) → counted most c s r ≡ Err f → later n (first_past most c (s ∷ r)) ≡ Some (record { at = n; fault = f })
+later_stops most n c f s r e = rw e (ap (λ m. Some (record { at = m; fault = f })) (omega arith))

@@ -10,7 +10,8 @@ use Rattle.pc_grammar.specs.Terminals.{among, the, one}
 use Rattle.pc_grammar.specs.Expressions.{signs, inner, number, name, signed, all_products, all_sums, atom, factor, addend, expr_in, paren_in, paren}
 use Rattle.pc_grammar.specs.Rights.{bound_of, open_bound, choice_of, alone, more, more_or_last, joined, bound, choice, part, right}
 use Rattle.pc_grammar.specs.Statements.{operators, begins_stmt, all_items, separated, optional, after, enclosed, compare_of, any, holds, set_of, if_of, while_of, assert_of, assume_of, compare, all, test, set_stmt, assert_stmt, assume_stmt, if_stmt, while_stmt, stmts_in, block_in, block}
-use Rattle.pc_grammar.specs.Programs.{given, var_names, flat, program_of, names, locals, program}
+use Rattle.pc_grammar.specs.Programs.{given, var_names, flat, program_of, names, locals, source, program}
+use Rattle.pc_grammar.specs.Parallels.{processes_of, parallel_of, parallel}
 
 -- a fault of nesting stands behind at least `n` symbols, and nothing is left that was not there
 abbrev BoundedAt : {A : Type 0} → ℕ → Text → Out A → Type 0
@@ -217,14 +218,21 @@ names_bounded n = separated_bounded terminal.Comma n _ (one_bounded terminal.Nam
 locals_bounded : (n : ℕ) → Bounded n locals
 locals_bounded n = map_bounded flat n _ (many_bounded (the terminal.Var) n _ (map_bounded var_names n _ (both_bounded n _ _ (one_bounded terminal.Var n) (both_bounded n _ _ (names_bounded n) (one_bounded terminal.Semicolon n)))))
 
-program_bounded : (n : ℕ) → Bounded n (program n)
-program_bounded n = map_bounded program_of n _ (both_bounded n _ _ (one_bounded terminal.Entry n)
+source_bounded : {A : Type 0} (n : ℕ) (q : Parser A) → Bounded n q → Bounded n (source q)
+source_bounded n q h = both_bounded n _ _ (one_bounded terminal.Entry n)
     (both_bounded n _ _ (enclosed_bounded n _ (map_bounded given n _ (maybe_bounded (the terminal.Name) n _ (names_bounded n))))
-    (both_bounded n _ _ (one_bounded terminal.OpenBrace n) (both_bounded n _ _ (locals_bounded n)
-    (both_bounded n _ _ (stmts_in_bounded n (paren n) (paren_bounded n) (block n) (block_bounded n)) (one_bounded terminal.CloseBrace n))))))
+    (both_bounded n _ _ (one_bounded terminal.OpenBrace n) (both_bounded n _ _ (locals_bounded n) (both_bounded n _ _ h (one_bounded terminal.CloseBrace n)))))
 
-pub never_deep : (i r : Text) → program (length i + 1) i ≡ Stops Deep r → ⊥
-never_deep i r e = at (subst (λ o. BoundedAt (length i + 1) i o) e (program_bounded (length i + 1) i))
+pub program_bounded : (n : ℕ) → Bounded n (program n)
+program_bounded n = map_bounded program_of n _ (source_bounded n _ (stmts_in_bounded n (paren n) (paren_bounded n) (block n) (block_bounded n)))
+
+pub parallel_bounded : (n : ℕ) → Bounded n (parallel n)
+parallel_bounded n = map_bounded parallel_of n _ (source_bounded n _
+    (map_bounded processes_of n _ (both_bounded n _ _ (block_bounded n) (both_bounded n _ _ (block_bounded n) (many_bounded (the terminal.OpenBrace) n _ (block_bounded n))))))
+
+-- a parser that is given more levels of nesting than there are symbols
+pub never_deep : {A : Type 0} (p : ℕ → Parser A) → ((n : ℕ) → Bounded n (p n)) → (i r : Text) → p (length i + 1) i ≡ Stops Deep r → ⊥
+never_deep p bounded i r e = at (subst (λ o. BoundedAt (length i + 1) i o) e (bounded (length i + 1) i))
   where
     at : length i + 1 + length r ≤ length i → ⊥
     at h = absurd (omega arith)

@@ -16,20 +16,27 @@ use Rattle.pc_grammar.specs.declared.tree.TestTree.TheVariants as test_is
 use Rattle.pc_grammar.specs.declared.tree.StmtTree.{StmtTree}
 use Rattle.pc_grammar.specs.declared.tree.StmtTree.TheVariants as stmt_is
 use Rattle.pc_grammar.specs.declared.tree.ProgramTree.{ProgramTree}
+use Rattle.pc_grammar.specs.declared.tree.ParallelTree.{ParallelTree}
 use Rattle.pc_grammar.specs.declared.fault.ParseFault.{ParseFault}
 use Rattle.pc_grammar.specs.declared.fault.ParseFault.TheVariants as fault
 use Rattle.pc_grammar.specs.Symbols.{symbols_of, keyword_of, byte_sign, pair_sign}
+use Rattle.pc_grammar.specs.Starts.{Start}
+use Rattle.pc_grammar.specs.Programs.{programs}
+use Rattle.pc_grammar.specs.Parallels.{parallels}
 use Rattle.pc_grammar.specs.Parsing.{parsed}
 
 -- ---- sources, and what their trees are made of
 
--- what the tokens of a text mean, where it has tokens
-abbrev meaning_of : Bytes → Result (List Token) LexFault → Result ProgramTree ParseFault
-meaning_of s (Ok ts) = parsed (symbols_of s ts) (place_of s (length s))
-meaning_of s (Err e) = Err fault.NoMemory
+-- what the tokens of a text mean as this start symbol, where it has tokens
+abbrev meaning_of : (S : Start) → Bytes → Result (List Token) LexFault → Result S.Tree ParseFault
+meaning_of S s (Ok ts) = parsed S (symbols_of s ts) (place_of s (length s))
+meaning_of S s (Err e) = Err fault.NoMemory
 
 abbrev meaning : Bytes → Result ProgramTree ParseFault
-meaning s = meaning_of s (lex s)
+meaning s = meaning_of programs s (lex s)
+
+abbrev parallel_meaning : Bytes → Result ParallelTree ParseFault
+parallel_meaning s = meaning_of parallels s (lex s)
 
 -- a column of the first line
 abbrev column : ℕ → Place
@@ -184,3 +191,30 @@ signs = refl
 choice_behind : meaning (codes "entry (x) { x = x" ++ repeated 64 (codes " + 1") ++ codes " + [0, 1] }") ≡ syntax_at 1 284
 unfolding lex class is_keyword place_of keyword_of byte_sign pair_sign
 choice_behind = refl
+
+-- ---- several processes
+
+two_processes : parallel_meaning (codes "entry (x) { { x = 1; } { } }")
+    ≡ Ok (record {
+      place = column 1;
+      params = letter 8 ∷ [];
+      locals = [];
+      bodies = (stmt_is.Set (letter 15) (record { expr = expr_is.Num (pos 1); choice = None }) ∷ []) ∷ [] ∷ [];
+    })
+unfolding lex class is_keyword place_of keyword_of byte_sign pair_sign
+two_processes = refl
+
+-- where a second process is missing, at what stands in its place
+one_process : parallel_meaning (codes "entry (x) { { x = 1; } }") ≡ Err (fault.Syntax (column 24))
+unfolding lex class is_keyword place_of keyword_of byte_sign pair_sign
+one_process = refl
+
+-- no block stands for a statement
+process_alone : meaning (codes "entry (x) { { x = 1; } }") ≡ syntax_at 1 13
+unfolding lex class is_keyword place_of keyword_of byte_sign pair_sign
+process_alone = refl
+
+-- the fifth process; blocks of statements are none
+five_processes : parallel_meaning (codes "entry () { {} { if (*) {} } {} {} {} }") ≡ Err (fault.TooManyProcesses (column 35))
+unfolding lex class is_keyword place_of keyword_of byte_sign pair_sign
+five_processes = refl

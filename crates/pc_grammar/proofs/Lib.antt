@@ -12,6 +12,7 @@ pub mod Loops
 pub mod Turns
 pub mod Counting
 pub mod Depths
+pub mod Starts
 pub mod Whole
 pub mod Scans
 pub mod Sound

@@ -105,6 +105,24 @@ pub stmts_got : (n : ℕ) (found : List StmtTree) (i r : Text) (x : StmtTree) �
     → stmts_from n found i ≡ stmts_from n (found ++ x ∷ []) r
 stmts_got n = gathered_got put_all put_one append-nil (λ found x xs. sym (append_assoc found (x ∷ []) xs)) (among begins_stmt) (stmt (paren n) (block n)) (stmt_progress n)
 
+-- ---- processes
+
+abbrev put_blocks : List (List StmtTree) → List (List StmtTree) → List (List StmtTree)
+put_blocks found xss = found ++ xss
+
+abbrev put_block : List (List StmtTree) → List StmtTree → List (List StmtTree)
+put_block found xs = found ++ xs ∷ []
+
+abbrev pub blocks_from : ℕ → List (List StmtTree) → Text → Out (List (List StmtTree))
+blocks_from n = gathered put_blocks (the terminal.OpenBrace) (block n)
+
+block_progress : (n : ℕ) (i r : Text) (a : List StmtTree) → block n i ≡ Got a r → length r < length i
+block_progress n = progress_of (the terminal.OpenBrace) _ _ _ _ _ (block_laws n) (block_begins n)
+
+pub blocks_got : (n : ℕ) (found : List (List StmtTree)) (i r : Text) (xs : List StmtTree) → starts (the terminal.OpenBrace) i ≡ true → block n i ≡ Got xs r
+    → blocks_from n found i ≡ blocks_from n (found ++ xs ∷ []) r
+blocks_got n = gathered_got put_blocks put_block append-nil (λ found xs xss. sym (append_assoc found (xs ∷ []) xss)) (the terminal.OpenBrace) (block n) (block_progress n)
+
 -- ---- one level of nesting
 
 pub paren_down : (d : ℕ) → 0 < d → paren d ≡ paren_in (paren (d - 1))

@@ -3,7 +3,9 @@ pub mod Terminals
 pub mod Expressions
 pub mod Rights
 pub mod Statements
+pub mod Starts
 pub mod Programs
+pub mod Parallels
 pub mod Reads
 pub mod Next
 pub mod Limits

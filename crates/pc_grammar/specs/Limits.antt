@@ -1,11 +1,12 @@
 -- The limits on nesting and on lengths, as counts over the symbols, apart from the grammar:
--- no "{" where BRACES are open; no sign of an expression that has SIGNS already; no "&&" where the conjunction has COMPARISONS already.
-use Rattle.std.specs.Prelude.{◌≡◌, ◌+◌, ◌-◌, ℕ, Bool, true, false, not, cond, nat_lt, List, [], ◌∷◌, ◌++◌, Option, Some, None, Result, Ok, Err}
+-- no "{" where BRACES are open; no sign of an expression that has SIGNS already; no "&&" where the conjunction has COMPARISONS already;
+-- and where a start symbol says how many blocks may stand directly in the outermost braces, no "{" of one more.
+use Rattle.std.specs.Prelude.{◌≡◌, ◌+◌, ◌-◌, ℕ, Bool, true, false, not, cond, nat_lt, nat_eq, List, [], ◌∷◌, ◌++◌, Option, Some, None, Result, Ok, Err}
 use Rattle.pc_grammar.specs.declared.symbol.Symbol.{Symbol}
 use Rattle.pc_language.specs.declared.terminal.Terminal.{Terminal}
 use Rattle.pc_language.specs.declared.terminal.Terminal.TheVariants as terminal
 use Rattle.pc_grammar.specs.declared.fault.ParseFault.{ParseFault}
-use Rattle.pc_grammar.specs.declared.fault.ParseFault.TheVariants.{TooDeep, TooLong}
+use Rattle.pc_grammar.specs.declared.fault.ParseFault.TheVariants.{TooDeep, TooLong, TooManyProcesses}
 use Rattle.pc_grammar.specs.declared.limits.Counts.{Counts}
 use Rattle.pc_grammar.specs.declared.limits.Past.{Past}
 use Rattle.pc_language.specs.declared.limits.TheConstants.{BRACES, SIGNS, COMPARISONS}
@@ -46,37 +47,44 @@ abbrev pub ands_after : ℕ → Terminal → Option ℕ
 ands_after n terminal.And = one_more n (COMPARISONS - 1)
 ands_after n k = cond (has keywords k) (Some 0) (Some n)
 
+-- the blocks directly in the outermost braces, where `most` of them may stand there; `braces` are open before the terminal
+abbrev pub blocks_after : Option ℕ → ℕ → ℕ → Terminal → Option ℕ
+blocks_after None n braces k = Some n
+blocks_after (Some most) n braces terminal.OpenBrace = cond (nat_eq braces 1) (one_more n most) (Some n)
+blocks_after (Some most) n braces _ = Some n
+
 abbrev pub or_else : {A B : Type 0} → Option A → ParseFault → (A → Result B ParseFault) → Result B ParseFault
 or_else None f k = Err f
 or_else (Some a) f k = k a
 
 abbrev pub start : Counts
-start = record { braces = 0; signs = 0; ands = 0; behind_keyword = false }
+start = record { braces = 0; signs = 0; ands = 0; blocks = 0; behind_keyword = false }
 
 -- the counts after one more symbol, which stands before the text `r`; or its fault, where it is past a limit
-abbrev pub counted : Counts → Symbol → Text → Result Counts ParseFault
-counted c s r =
+abbrev pub counted : Option ℕ → Counts → Symbol → Text → Result Counts ParseFault
+counted most c s r =
     or_else (braces_after c.braces s.terminal) (TooDeep s.place) (λ braces.
     or_else (signs_after c.signs (is_sign s.terminal c.behind_keyword r) s.terminal) (TooLong s.place) (λ signs.
     or_else (ands_after c.ands s.terminal) (TooLong s.place) (λ ands.
-    Ok (record { braces = braces; signs = signs; ands = ands; behind_keyword = has keywords s.terminal }))))
+    or_else (blocks_after most c.blocks c.braces s.terminal) (TooManyProcesses s.place) (λ blocks.
+    Ok (record { braces = braces; signs = signs; ands = ands; blocks = blocks; behind_keyword = has keywords s.terminal })))))
 
 abbrev pub and_on : Result Counts ParseFault → (Counts → Result Counts ParseFault) → Result Counts ParseFault
 and_on (Ok c) k = k c
 and_on (Err f) k = Err f
 
 -- the counts after the text `u`, which stands before `v`; or the fault of its first symbol that is past a limit
-abbrev pub counts : Counts → Text → Text → Result Counts ParseFault
-counts c [] v = Ok c
-counts c (s ∷ u) v = and_on (counted c s (u ++ v)) (λ d. counts d u v)
+abbrev pub counts : Option ℕ → Counts → Text → Text → Result Counts ParseFault
+counts most c [] v = Ok c
+counts most c (s ∷ u) v = and_on (counted most c s (u ++ v)) (λ d. counts most d u v)
 
 -- no symbol of `u`, which stands before `v`, is past a limit
-abbrev pub Within : Text → Text → Type 0
-Within u v = (c : Counts) × (counts start u v ≡ Ok c)
+abbrev pub Within : Option ℕ → Text → Text → Type 0
+Within most u v = (c : Counts) × (counts most start u v ≡ Ok c)
 
 -- the symbol `s` between `u` and `v` is the first past a limit, with this fault
-abbrev pub FirstPast : Text → Symbol → Text → ParseFault → Type 0
-FirstPast u s v f = (c : Counts) × (counts start u (s ∷ v) ≡ Ok c) × (counted c s v ≡ Err f)
+abbrev pub FirstPast : Option ℕ → Text → Symbol → Text → ParseFault → Type 0
+FirstPast most u s v f = (c : Counts) × (counts most start u (s ∷ v) ≡ Ok c) × (counted most c s v ≡ Err f)
 
 -- ---- the same as an index
 
@@ -88,6 +96,6 @@ abbrev pub past_or : Result Counts ParseFault → (Counts → Option Past) → O
 past_or (Err f) k = Some (record { at = 0; fault = f })
 past_or (Ok c) k = one_later (k c)
 
-abbrev pub first_past : Counts → Text → Option Past
-first_past c [] = None
-first_past c (s ∷ r) = past_or (counted c s r) (λ d. first_past d r)
+abbrev pub first_past : Option ℕ → Counts → Text → Option Past
+first_past most c [] = None
+first_past most c (s ∷ r) = past_or (counted most c s r) (λ d. first_past most d r)

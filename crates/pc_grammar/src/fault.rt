@@ -12,6 +12,8 @@ pub enum ParseFault {
     /// A sign of an expression that has [`SIGNS`](crate::SIGNS) already, or the `&&` before a
     /// comparison of a conjunction that has [`COMPARISONS`](crate::COMPARISONS).
     TooLong(Place),
+    /// The `{` of a process behind [`PROCESSES`](crate::PROCESSES) others. No program has this fault.
+    TooManyProcesses(Place),
     /// There is no memory for the tree.
     NoMemory,
 }

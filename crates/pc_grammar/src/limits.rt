@@ -10,6 +10,9 @@ use crate::fault::ParseFault;
 use crate::symbol::Symbol;
 use pc_language::{BRACES, COMPARISONS, SIGNS, Terminal};
 
+/// The most processes of a source.
+pub const PROCESSES: usize = 4;
+
 /// What was counted in the symbols before one.
 #[derive(Clone, Copy)]
 pub struct Counts {
@@ -19,6 +22,8 @@ pub struct Counts {
     pub signs: usize,
     /// The `&&` of the present conjunction.
     pub ands: usize,
+    /// The blocks directly in the outermost braces, where their number is limited.
+    pub blocks: usize,
     /// Whether the symbol directly before is a keyword: a `(` here encloses no expression.
     pub behind_keyword: bool,
 }
@@ -128,10 +133,34 @@ fn ands_after(ands: usize, terminal: Terminal) -> Option<usize>
     }
 }
 
+/// The blocks directly in the outermost braces after one more symbol, where at most so many may
+/// stand there.
+fn blocks_after(
+    most: Option<usize>,
+    blocks: usize,
+    braces: usize,
+    terminal: Terminal,
+) -> Option<usize>
+    ensures { result ≡ spec.blocks_after most blocks braces terminal }
+{
+    match most {
+        None => Some(blocks),
+        Some(most) => match terminal {
+            Terminal::OpenBrace if braces == 1 => one_more(blocks, most),
+            _ => Some(blocks),
+        },
+    }
+}
+
 /// The counts after one more symbol, which stands before these others; or its fault, where it is
 /// past a limit.
-fn counted(counts: Counts, symbol: Symbol, rest: &[Symbol]) -> Result<Counts, ParseFault>
-    ensures { result ≡ spec.counted counts symbol rest.now }
+fn counted(
+    most: Option<usize>,
+    counts: Counts,
+    symbol: Symbol,
+    rest: &[Symbol],
+) -> Result<Counts, ParseFault>
+    ensures { result ≡ spec.counted most counts symbol rest.now }
 {
     let Some(braces) = braces_after(counts.braces, symbol.terminal) else {
         return Err(ParseFault::TooDeep(symbol.place));
@@ -143,29 +172,35 @@ fn counted(counts: Counts, symbol: Symbol, rest: &[Symbol]) -> Result<Counts, Pa
     let Some(ands) = ands_after(counts.ands, symbol.terminal) else {
         return Err(ParseFault::TooLong(symbol.place));
     };
+    let Some(blocks) = blocks_after(most, counts.blocks, counts.braces, symbol.terminal) else {
+        return Err(ParseFault::TooManyProcesses(symbol.place));
+    };
     Ok(Counts {
         braces,
         signs,
         ands,
+        blocks,
         behind_keyword: is_keyword(symbol.terminal),
     })
 }
 
-/// The first symbol that is past a limit.
-pub fn first_past(symbols: &[Symbol]) -> Option<Past>
-    ensures first { result ≡ spec.first_past spec.start symbols.now }
+/// The first symbol that is past a limit, where at most so many blocks may stand directly in the
+/// outermost braces.
+pub fn first_past(most: Option<usize>, symbols: &[Symbol]) -> Option<Past>
+    ensures first { result ≡ spec.first_past most spec.start symbols.now }
     ensures within { IfSome result (λ past. past.at < length symbols.now) }
 {
     let mut counts = Counts {
         braces: 0,
         signs: 0,
         ands: 0,
+        blocks: 0,
         behind_keyword: false,
     };
     let mut at = 0;
     let mut ahead = symbols;
     'symbols: while let [symbol, rest @ ..] = ahead {
-        match counted(counts, *symbol, rest) {
+        match counted(most, counts, *symbol, rest) {
             Ok(next) => counts = next,
             Err(fault) => return Some(Past { at, fault }),
         }

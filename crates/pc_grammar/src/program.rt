@@ -43,7 +43,7 @@ fn optional_names(alloc: Global, cursor: &mut Cursor<'_>) -> Result<Items<Symbol
 }
 
 /// The parameters, in parentheses.
-fn params(alloc: Global, cursor: &mut Cursor<'_>) -> Result<Items<Symbol>, Stop>
+pub fn params(alloc: Global, cursor: &mut Cursor<'_>) -> Result<Items<Symbol>, Stop>
     ensures reads { Reads (spec.params cursor.old.rest.now) result cursor.new.rest.now }
     ensures shrinks { length cursor.new.rest.now ≤ length cursor.old.rest.now }
 {
@@ -66,7 +66,7 @@ fn var_line(alloc: Global, cursor: &mut Cursor<'_>) -> Result<Items<Symbol>, Sto
 }
 
 /// The names of all `var` lines, in one list.
-fn locals(alloc: Global, cursor: &mut Cursor<'_>) -> Result<Items<Symbol>, Stop>
+pub fn locals(alloc: Global, cursor: &mut Cursor<'_>) -> Result<Items<Symbol>, Stop>
     ensures reads { Reads (spec.locals cursor.old.rest.now) result cursor.new.rest.now }
     ensures shrinks { length cursor.new.rest.now ≤ length cursor.old.rest.now }
 {

@@ -152,10 +152,11 @@ pub fn stmts(alloc: Global, cursor: &mut Cursor<'_>, depth: usize) -> Result<Ite
 
 /// Statements in braces.
 #[cycle(stmt)]
-fn block(alloc: Global, cursor: &mut Cursor<'_>, depth: usize) -> Result<Items<StmtTree>, Stop>
+pub fn block(alloc: Global, cursor: &mut Cursor<'_>, depth: usize) -> Result<Items<StmtTree>, Stop>
     requires { length cursor.old.rest.now < depth }
     ensures reads { Reads (spec.block depth cursor.old.rest.now) result cursor.new.rest.now }
     ensures shrinks { length cursor.new.rest.now ≤ length cursor.old.rest.now }
+    ensures shorter { OnOk result (length cursor.new.rest.now + 1 ≤ length cursor.old.rest.now) }
 {
     cursor.take(Terminal::OpenBrace)?;
     let found = stmts(alloc, cursor, depth - 1)?;

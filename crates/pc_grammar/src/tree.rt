@@ -86,3 +86,14 @@ pub struct ProgramTree {
     pub locals: Items<Symbol>,
     pub body: Items<StmtTree>,
 }
+
+/// Several processes over shared variables. The place is that of `entry`; parameters and locals are
+/// as in a program, and the bodies are the blocks of the processes in order, two to
+/// [`PROCESSES`](crate::PROCESSES) of them.
+#[derive(Drop)]
+pub struct ParallelTree {
+    pub place: Place,
+    pub params: Items<Symbol>,
+    pub locals: Items<Symbol>,
+    pub bodies: Items<Items<StmtTree>>,
+}

@@ -16,12 +16,11 @@ use Rattle.pc_program.specs.declared.tree.Test.TheVariants as test
 use Rattle.pc_program.specs.declared.tree.Right.{Right}
 use Rattle.pc_program.specs.declared.tree.Stmt.{Stmt, Stmt-F, roll-Stmt, fold-roll-Stmt}
 use Rattle.pc_program.specs.declared.tree.Stmt.TheOpen as stmt
-use Rattle.pc_program.specs.declared.program.Program.{Program}
 use Rattle.pc_show.specs.declared.showing.level.Level.{Level}
 use Rattle.pc_show.specs.declared.showing.level.Level.TheVariants as level
 use Rattle.pc_show.specs.Pieces.{Piece, Blank, LineEnd, Mark, Name, bytes_of}
 use Rattle.pc_show.specs.Canonical.{spaced, joined, name_at, expr_step, expr_pieces, sign_of, compare_pieces, further_pieces, all_pieces, test_pieces, choice_pieces, right_pieces, opened, block, else_part, tried_pieces, stmt_step, stmt_pieces, lines, names_pieces, locals_pieces, program_text}
-use Rattle.pc_readback.specs.Bare.{nowhere, bare_expr_step, bare_expr, bare_compare, bare_all, bare_test, bare_choice, bare_right, bare_stmt_step, bare_stmt, bare, SamePrograms}
+use Rattle.pc_readback.specs.Bare.{nowhere, bare_expr_step, bare_expr, bare_compare, bare_all, bare_test, bare_choice, bare_right, bare_stmt_step, bare_stmt, bare}
 use Rattle.pc_readback.specs.ReadsBack.{TextsLeaveOutPlaces}
 use Rattle.pc_program.proofs.Exprs.{by_cases}
 use Rattle.pc_program.proofs.Stmts.{by_stmt, all_by}

@@ -1,5 +1,5 @@
 -- The counts over the symbols of an expression's pieces.
-use Rattle.std.proofs.Common.{◌≡◌, ℕ, ◌+◌, ◌≤◌, refl, ◌∙◌, ap, arith, List, [], ◌∷◌, ◌++◌, Bool, true, false, Ok}
+use Rattle.std.proofs.Common.{◌≡◌, ℕ, ◌+◌, ◌≤◌, refl, ◌∙◌, ap, arith, List, [], ◌∷◌, ◌++◌, Bool, true, false, None, Ok}
 use Rattle.std.specs.Prelude.{nat_le}
 use Rattle.std.specs.List.{list_all}
 use Rattle.std.proofs.lemmas.Bool.{leb-true, lt-ltb}
@@ -59,12 +59,12 @@ is_of_expr (Number z) = true
 
 module _ (b n k : ℕ) (c : Counts) (s : Symbol) (r : Text) (w : Within b n k c) where
   -- a symbol that is no sign
-  plain : (t : Terminal) → s.terminal ≡ t → counted c s r ≡ Ok (record { braces = c.braces; signs = c.signs; ands = c.ands; behind_keyword = false }) → Step c s r (Within b n k)
-  plain t e h = record { after = record { braces = c.braces; signs = c.signs; ands = c.ands; behind_keyword = false }; runs = h; holds = record { braces_are = w.braces_are; ands_are = w.ands_are; signs_are = w.signs_are; behind_none = refl } }
+  plain : (t : Terminal) → s.terminal ≡ t → counted None c s r ≡ Ok (record { braces = c.braces; signs = c.signs; ands = c.ands; blocks = c.blocks; behind_keyword = false }) → Step c s r (Within b n k)
+  plain t e h = record { after = record { braces = c.braces; signs = c.signs; ands = c.ands; blocks = c.blocks; behind_keyword = false }; runs = h; holds = record { braces_are = w.braces_are; ands_are = w.ands_are; signs_are = w.signs_are; behind_none = refl } }
 
   -- and one that is
-  sign : (t : Terminal) → s.terminal ≡ t → counted c s r ≡ Ok (record { braces = c.braces; signs = c.signs + 1; ands = c.ands; behind_keyword = false }) → Step c s r (Within b n (k + 1))
-  sign t e h = record { after = record { braces = c.braces; signs = c.signs + 1; ands = c.ands; behind_keyword = false }; runs = h; holds = record { braces_are = w.braces_are; ands_are = w.ands_are; signs_are = ap (λ (m : ℕ). m + 1) w.signs_are; behind_none = refl } }
+  sign : (t : Terminal) → s.terminal ≡ t → counted None c s r ≡ Ok (record { braces = c.braces; signs = c.signs + 1; ands = c.ands; blocks = c.blocks; behind_keyword = false }) → Step c s r (Within b n (k + 1))
+  sign t e h = record { after = record { braces = c.braces; signs = c.signs + 1; ands = c.ands; blocks = c.blocks; behind_keyword = false }; runs = h; holds = record { braces_are = w.braces_are; ands_are = w.ands_are; signs_are = ap (λ (m : ℕ). m + 1) w.signs_are; behind_none = refl } }
 
   mark_step : (t : Terminal) → in_expr t ≡ true → s.terminal ≡ t → k + sign_weight t ≤ SIGNS → NoChoice r → Step c s r (Within b n (k + sign_weight t))
   mark_step terminal.OpenParen i e h f = sign terminal.OpenParen e (rw (e, w.behind_none, lt-ltb c.signs SIGNS (let g = w.signs_are in omega arith)) refl)

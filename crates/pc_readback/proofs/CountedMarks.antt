@@ -1,5 +1,5 @@
 -- The counts over single marks.
-use Rattle.std.proofs.Common.{◌≡◌, ℕ, ◌+◌, ◌-◌, ◌<◌, refl, ap, arith, [], ◌∷◌, true, false, Ok}
+use Rattle.std.proofs.Common.{◌≡◌, ℕ, ◌+◌, ◌-◌, ◌<◌, refl, ap, arith, [], ◌∷◌, true, false, None, Ok}
 use Rattle.std.proofs.lemmas.Bool.{lt-ltb}
 use Rattle.pc_text.specs.Bytes.{Bytes}
 use Rattle.pc_grammar.specs.declared.symbol.Symbol.{Symbol}
@@ -26,27 +26,27 @@ pub record Keyword (braces : ℕ) (c : Counts) : Type 0 where
 
 -- a symbol that leaves braces and "&&" as they are, and ends an expression
 abbrev pub Resets : Terminal → Type 0
-Resets t = (c : Counts) (s : Symbol) (r : Text) → s.terminal ≡ t → counted c s r ≡ Ok (record { braces = c.braces; signs = 0; ands = c.ands; behind_keyword = false })
+Resets t = (c : Counts) (s : Symbol) (r : Text) → s.terminal ≡ t → counted None c s r ≡ Ok (record { braces = c.braces; signs = 0; ands = c.ands; blocks = c.blocks; behind_keyword = false })
 
 -- a keyword
 abbrev pub Begins : Terminal → Type 0
-Begins t = (c : Counts) (s : Symbol) (r : Text) → s.terminal ≡ t → counted c s r ≡ Ok (record { braces = c.braces; signs = 0; ands = 0; behind_keyword = true })
+Begins t = (c : Counts) (s : Symbol) (r : Text) → s.terminal ≡ t → counted None c s r ≡ Ok (record { braces = c.braces; signs = 0; ands = 0; blocks = c.blocks; behind_keyword = true })
 
 module _ (src : Bytes) (b : ℕ) where
   pub reset : (n : ℕ) (t : Terminal) → Resets t → Count src (Mark t ∷ []) (Here b n) (Within b n 0) Anything
   reset n t f = count_mark src t (Here b n) (Within b n 0) Anything (λ c s r p e k. record {
-    after = record { braces = c.braces; signs = 0; ands = c.ands; behind_keyword = false };
+    after = record { braces = c.braces; signs = 0; ands = c.ands; blocks = c.blocks; behind_keyword = false };
     runs = f c s r e;
     holds = record { braces_are = p.braces_are; ands_are = p.ands_are; signs_are = refl; behind_none = refl };
   })
 
   -- a mark behind which only the braces matter
   pub closed : (t : Terminal) → Resets t → Count src (Mark t ∷ []) (Braces b) (Braces b) Anything
-  closed t f = count_mark src t (Braces b) (Braces b) Anything (λ c s r p e k. record { after = record { braces = c.braces; signs = 0; ands = c.ands; behind_keyword = false }; runs = f c s r e; holds = p })
+  closed t f = count_mark src t (Braces b) (Braces b) Anything (λ c s r p e k. record { after = record { braces = c.braces; signs = 0; ands = c.ands; blocks = c.blocks; behind_keyword = false }; runs = f c s r e; holds = p })
 
   pub keyword : (t : Terminal) → Begins t → Count src (Mark t ∷ []) (Braces b) (Keyword b) Anything
   keyword t f = count_mark src t (Braces b) (Keyword b) Anything (λ c s r p e k. record {
-    after = record { braces = c.braces; signs = 0; ands = 0; behind_keyword = true };
+    after = record { braces = c.braces; signs = 0; ands = 0; blocks = c.blocks; behind_keyword = true };
     runs = f c s r e;
     holds = record { braces_are = p; ands_none = refl; signs_none = refl; behind = refl };
   })
@@ -54,14 +54,14 @@ module _ (src : Bytes) (b : ℕ) where
   -- the parenthesis behind a keyword is no sign
   pub open_paren : Count src (Mark terminal.OpenParen ∷ []) (Keyword b) (Within b 0 0) Anything
   open_paren = count_mark src terminal.OpenParen (Keyword b) (Within b 0 0) Anything (λ c s r p e k. record {
-    after = record { braces = c.braces; signs = c.signs; ands = c.ands; behind_keyword = false };
+    after = record { braces = c.braces; signs = c.signs; ands = c.ands; blocks = c.blocks; behind_keyword = false };
     runs = rw (e, p.behind) refl;
     holds = record { braces_are = p.braces_are; ands_are = p.ands_none; signs_are = p.signs_none; behind_none = refl };
   })
 
   pub close_paren : Count src (Mark terminal.CloseParen ∷ []) (Braces b) (Braces b) Anything
   close_paren = count_mark src terminal.CloseParen (Braces b) (Braces b) Anything (λ c s r p e k. record {
-    after = record { braces = c.braces; signs = c.signs; ands = c.ands; behind_keyword = false };
+    after = record { braces = c.braces; signs = c.signs; ands = c.ands; blocks = c.blocks; behind_keyword = false };
     runs = rw e refl;
     holds = p;
   })
@@ -69,14 +69,14 @@ module _ (src : Bytes) (b : ℕ) where
   -- the name of an assignment, and one that is declared
   pub name_here : (n : ℕ) (w : Bytes) → Count src (Name w ∷ []) (Here b n) (Here b n) Anything
   name_here n w = count_name src w (Here b n) (Here b n) Anything (λ c s r p e k. record {
-    after = record { braces = c.braces; signs = c.signs; ands = c.ands; behind_keyword = false };
+    after = record { braces = c.braces; signs = c.signs; ands = c.ands; blocks = c.blocks; behind_keyword = false };
     runs = rw e refl;
     holds = record { braces_are = p.braces_are; ands_are = p.ands_are };
   })
 
   pub name_closed : (w : Bytes) → Count src (Name w ∷ []) (Braces b) (Braces b) Anything
   name_closed w = count_name src w (Braces b) (Braces b) Anything (λ c s r p e k. record {
-    after = record { braces = c.braces; signs = c.signs; ands = c.ands; behind_keyword = false };
+    after = record { braces = c.braces; signs = c.signs; ands = c.ands; blocks = c.blocks; behind_keyword = false };
     runs = rw e refl;
     holds = p;
   })
@@ -84,28 +84,28 @@ module _ (src : Bytes) (b : ℕ) where
   -- the test `*`
   pub any_test : Count src (Mark terminal.Star ∷ []) (Within b 0 0) (Braces b) Anything
   any_test = count_mark src terminal.Star (Within b 0 0) (Braces b) Anything (λ c s r p e k. record {
-    after = record { braces = c.braces; signs = c.signs + 1; ands = c.ands; behind_keyword = false };
+    after = record { braces = c.braces; signs = c.signs + 1; ands = c.ands; blocks = c.blocks; behind_keyword = false };
     runs = rw (e, p.signs_are) refl;
     holds = p.braces_are;
   })
 
   pub one_and : (n : ℕ) → n < COMPARISONS - 1 → Count src (Mark terminal.And ∷ []) (Here b n) (Within b (n + 1) 0) Anything
   one_and n l = count_mark src terminal.And (Here b n) (Within b (n + 1) 0) Anything (λ c s r p e k. record {
-    after = record { braces = c.braces; signs = 0; ands = c.ands + 1; behind_keyword = false };
+    after = record { braces = c.braces; signs = 0; ands = c.ands + 1; blocks = c.blocks; behind_keyword = false };
     runs = rw (e, p.ands_are, lt-ltb n (COMPARISONS - 1) l) refl;
     holds = record { braces_are = p.braces_are; ands_are = ap (λ (m : ℕ). m + 1) p.ands_are; signs_are = refl; behind_none = refl };
   })
 
   pub open_brace : b < BRACES → Count src (Mark terminal.OpenBrace ∷ []) (Braces b) (Braces (b + 1)) Anything
   open_brace l = count_mark src terminal.OpenBrace (Braces b) (Braces (b + 1)) Anything (λ c s r p e k. record {
-    after = record { braces = c.braces + 1; signs = 0; ands = c.ands; behind_keyword = false };
+    after = record { braces = c.braces + 1; signs = 0; ands = c.ands; blocks = c.blocks; behind_keyword = false };
     runs = rw (e, p, lt-ltb b BRACES l) refl;
     holds = ap (λ (m : ℕ). m + 1) p;
   })
 
   pub close_brace : Count src (Mark terminal.CloseBrace ∷ []) (Braces (b + 1)) (Braces b) Anything
   close_brace = count_mark src terminal.CloseBrace (Braces (b + 1)) (Braces b) Anything (λ c s r p e k. record {
-    after = record { braces = c.braces - 1; signs = 0; ands = c.ands; behind_keyword = false };
+    after = record { braces = c.braces - 1; signs = 0; ands = c.ands; blocks = c.blocks; behind_keyword = false };
     runs = rw e refl;
     holds = omega arith;
   })

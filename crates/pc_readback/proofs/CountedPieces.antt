@@ -1,5 +1,5 @@
 -- What the limits count over symbols of pieces, wherever they stand.
-use Rattle.std.proofs.Common.{◌≡◌, refl, ◌∙◌, ap, List, [], ◌∷◌, ◌++◌, false, Ok}
+use Rattle.std.proofs.Common.{◌≡◌, refl, ◌∙◌, ap, List, [], ◌∷◌, ◌++◌, false, None, Ok}
 use Rattle.pc_text.specs.Bytes.{Bytes}
 use Rattle.pc_grammar.specs.declared.symbol.Symbol.{Symbol}
 use Rattle.pc_language.specs.declared.terminal.Terminal.{Terminal}
@@ -16,20 +16,20 @@ use Rattle.pc_readback.proofs.PieceParts.{parts_of}
 -- no symbol of a word is past a limit, and this holds of the counts behind it
 pub record Passes (c : Counts) (u v : Text) (Q : Counts → Type 0) : Type 0 where
   pub after : Counts
-  pub runs : counts c u v ≡ Ok after
+  pub runs : counts None c u v ≡ Ok after
   pub holds : Q after
 
 -- the same of one symbol
 pub record Step (c : Counts) (s : Symbol) (r : Text) (Q : Counts → Type 0) : Type 0 where
   pub after : Counts
-  pub runs : counted c s r ≡ Ok after
+  pub runs : counted None c s r ≡ Ok after
   pub holds : Q after
 
 pub passes_both : (c : Counts) (u w v : Text) (Q R : Counts → Type 0) → Passes c u (w ++ v) Q → ((d : Counts) → Q d → Passes d w v R) → Passes c (u ++ w) v R
-passes_both c u w v Q R x f = let y = f x.after x.holds in record { after = y.after; runs = counts_append c u w v ∙ ap (λ o. and_on o (λ d. counts d w v)) x.runs ∙ y.runs; holds = y.holds }
+passes_both c u w v Q R x f = let y = f x.after x.holds in record { after = y.after; runs = counts_append None c u w v ∙ ap (λ o. and_on o (λ d. counts None d w v)) x.runs ∙ y.runs; holds = y.holds }
 
 pub passes_first : (c : Counts) (s : Symbol) (u v : Text) (Q R : Counts → Type 0) → Step c s (u ++ v) Q → ((d : Counts) → Q d → Passes d u v R) → Passes c (s ∷ u) v R
-passes_first c s u v Q R x f = let y = f x.after x.holds in record { after = y.after; runs = ap (λ o. and_on o (λ d. counts d u v)) x.runs ∙ y.runs; holds = y.holds }
+passes_first c s u v Q R x f = let y = f x.after x.holds in record { after = y.after; runs = ap (λ o. and_on o (λ d. counts None d u v)) x.runs ∙ y.runs; holds = y.holds }
 
 -- nothing is asked of what follows
 abbrev pub Anything : Text → Type 0

@@ -1,5 +1,5 @@
 -- No symbol of a program's pieces is past a limit.
-use Rattle.std.proofs.Common.{◌≡◌, ℕ, ◌+◌, refl, arith, List, [], ◌∷◌, ◌++◌, length, take, drop, true}
+use Rattle.std.proofs.Common.{◌≡◌, ℕ, ◌+◌, refl, arith, List, [], ◌∷◌, ◌++◌, length, take, drop, true, None}
 use Rattle.std.specs.Prelude.{nat_le}
 use Rattle.std.specs.List.{list_all}
 use Rattle.std.proofs.lemmas.Bool.{leb-true}
@@ -49,7 +49,7 @@ module _ (src : Bytes) where
       (count_then src (Braces 1) (Braces 1) (Braces 0) Anything vs (ps ++ tail) (locals_counted 1 (drop names.params names.names))
       (count_then src (Braces 1) (Braces 1) (Braces 0) Anything ps tail d (close_brace src 0))))
 
-pub shown_within : (src : Bytes) (names : Named) (body : List Stmt) → is_sane names body ≡ true → is_showable names body ≡ true → (u : Text) → AreOf src (program_pieces names body) u → limits.Within u []
+pub shown_within : (src : Bytes) (names : Named) (body : List Stmt) → is_sane names body ≡ true → is_showable names body ≡ true → (u : Text) → AreOf src (program_pieces names body) u → limits.Within None u []
 shown_within src names body sane shown u h =
     let p = and_is (nat_le names.params (length names.names)) _ sane in
     let q = and_is (nat_le (length names.names) VARIABLES) _ p.1 in

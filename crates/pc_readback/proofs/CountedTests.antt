@@ -97,7 +97,7 @@ module _ (src : Bytes) (names : List Bytes) (b : ℕ) where
   -- a "+" before a choice is no sign
   choice_plus : (n : ℕ) → Count src (Mark terminal.Plus ∷ []) (Here b n) (Here b n) (λ v. starts (the terminal.OpenBracket) v ≡ true)
   choice_plus n = count_mark src terminal.Plus (Here b n) (Here b n) (λ v. starts (the terminal.OpenBracket) v ≡ true) (λ c s r p e k. record {
-    after = record { braces = c.braces; signs = c.signs; ands = c.ands; behind_keyword = false };
+    after = record { braces = c.braces; signs = c.signs; ands = c.ands; blocks = c.blocks; behind_keyword = false };
     runs = rw (e, k) refl;
     holds = record { braces_are = p.braces_are; ands_are = p.ands_are };
   })

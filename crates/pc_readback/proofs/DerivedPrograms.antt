@@ -11,6 +11,7 @@ use Rattle.pc_grammar.specs.declared.tree.ProgramTree.{ProgramTree}
 use Rattle.pc_grammar.specs.Combinators.{Text, is_map, is_both, is_maybe}
 use Rattle.pc_grammar.specs.Terminals.{is_one}
 use Rattle.pc_grammar.specs.Statements.{is_stmts}
+use Rattle.pc_grammar.specs.Starts.{Derives}
 use Rattle.pc_grammar.specs.Programs as grammar
 use Rattle.pc_language.specs.declared.limits.TheConstants.{EDGES}
 use Rattle.pc_program.specs.declared.tree.Stmt.{Stmt}
@@ -89,7 +90,7 @@ module _ (src : Bytes) (names : Named) (body : List Stmt) where
 -- the symbols of the pieces of a program derive a tree, of which the walk makes this program apart from places
 pub record Derived (src : Bytes) (names : Named) (body : List Stmt) (u : Text) : Type 0 where
   pub tree : ProgramTree
-  pub derives : grammar.Derives tree u
+  pub derives : Derives grammar.programs tree u
   pub again : IsProgram src names body tree
 
 pub shown_program : (src : Bytes) (names : Named) (body : List Stmt) → is_sane names body ≡ true → all_differ names.names ≡ true → (u : Text) → AreOf src (program_pieces names body) u → Derived src names body u

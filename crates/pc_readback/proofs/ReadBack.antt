@@ -9,8 +9,10 @@ use Rattle.pc_text.specs.declared.token.Token.{Token}
 use Rattle.pc_text.specs.declared.token.LexFault.{LexFault}
 use Rattle.pc_text.proofs.LexOnly as lex_only
 use Rattle.pc_grammar.specs.Symbols.{symbols_of}
+use Rattle.pc_grammar.specs.Programs.{programs}
 use Rattle.pc_grammar.specs.declared.tree.ProgramTree.{ProgramTree}
 use Rattle.pc_grammar.specs.declared.fault.ParseFault.{ParseFault}
+use Rattle.pc_grammar.proofs.Starts.{programs_lawful}
 use Rattle.pc_grammar.proofs.Unique as unique
 use Rattle.pc_program.specs.declared.program.Program.{Program}
 use Rattle.pc_syntax.specs.declared.fault.SourceFault.{SourceFault}
@@ -18,7 +20,8 @@ use Rattle.pc_show.specs.Canonical.{program_pieces, program_text}
 use Rattle.pc_readback.specs.Matched.{AreOf}
 use Rattle.pc_readback.specs.Showable.{is_name, all_differ, is_showable}
 use Rattle.pc_syntax.specs.Context.{Content, checked, content_of}
-use Rattle.pc_syntax.specs.Spelling.{Spells, HasTree, IsParsed, Means}
+use Rattle.pc_syntax.specs.Texts.{HasTree, IsParsed}
+use Rattle.pc_syntax.specs.Spelling.{Spells, Means}
 use Rattle.pc_readback.specs.Bare.{bare, SamePrograms}
 use Rattle.pc_readback.specs.ReadsBack.{ShowReadsBack, NothingElseReadsBack}
 use Rattle.pc_program.proofs.Results.{and_is}
@@ -33,21 +36,21 @@ same_tokens : (src : Bytes) (a b : Result (List Token) LexFault) → tokens.Mean
 unfolding lex
 same_tokens src a b h k = sym (lex_only.only src src 0 a h) ∙ lex_only.only src src 0 b k
 
-same_answer : (src : Bytes) (found : List Token) (a b : Result ProgramTree ParseFault) → HasTree src found a → HasTree src found b → a ≡ b
-same_answer src found a b h k = unique.unique (symbols_of src found) (place_of src (length src)) a b h k
+same_answer : (src : Bytes) (found : List Token) (a b : Result ProgramTree ParseFault) → HasTree programs src found a → HasTree programs src found b → a ≡ b
+same_answer src found a b h k = unique.unique programs programs_lawful (symbols_of src found) (place_of src (length src)) a b h k
 
-module _ (src : Bytes) (found : List Token) (t : ProgramTree) (h : tokens.Means src (Ok found)) (d : HasTree src found (Ok t)) where
-  same_tree : (t' : ProgramTree) → IsParsed src t' → t' ≡ t
+module _ (src : Bytes) (found : List Token) (t : ProgramTree) (h : tokens.Means src (Ok found)) (d : HasTree programs src found (Ok t)) where
+  same_tree : (t' : ProgramTree) → IsParsed programs src t' → t' ≡ t
   same_tree t' x =
       let f : x.found ≡ found = cc (same_tokens src (Ok x.found) (Ok found) x.tokens h) in
-      cc (same_answer src found (Ok t') (Ok t) (subst (λ ts. HasTree src ts (Ok t')) f x.derives) d)
+      cc (same_answer src found (Ok t') (Ok t) (subst (λ ts. HasTree programs src ts (Ok t')) f x.derives) d)
 
   -- where the context rules make something of the tree, the text has no fault
   never_faulty : (c : Content) → checked src t ≡ Ok c → (f : SourceFault) → Means src (Err f) → ⊥
   never_faulty c k f (inl x) = let e = same_tokens src (Err x.cause) (Ok found) x.means h in absurd (cc)
   never_faulty c k f (inr (inl x)) =
       let e : x.found ≡ found = cc (same_tokens src (Ok x.found) (Ok found) x.tokens h) in
-      let g = same_answer src found (Err x.cause) (Ok t) (subst (λ ts. HasTree src ts (Err x.cause)) e x.means) d in
+      let g = same_answer src found (Err x.cause) (Ok t) (subst (λ ts. HasTree programs src ts (Err x.cause)) e x.means) d in
       absurd (cc)
   never_faulty c k f (inr (inr x)) = let e = sym (ap (checked src) (same_tree x.tree x.parsed)) ∙ x.broken in absurd (cc)
 

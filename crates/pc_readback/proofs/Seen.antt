@@ -9,11 +9,10 @@ use Rattle.pc_grammar.specs.declared.fault.ParseFault.{ParseFault}
 use Rattle.pc_grammar.specs.Combinators.{Text, Lang, is_map, is_both, is_either, is_maybe, is_many, is_dead}
 use Rattle.pc_grammar.specs.Terminals.{among, has, is_one_of}
 use Rattle.pc_grammar.specs.Limits.{keywords, braces_after, counted, and_on, counts}
-use Rattle.pc_grammar.proofs.Scans.{counts_append}
+use Rattle.pc_grammar.proofs.Scans.{counts_append, is_counted}
 use Rattle.pc_grammar.proofs.Sets.{apart, parted}
 use Rattle.pc_program.proofs.Results.{and_is}
 use Rattle.pc_syntax.proofs.Phrases.{all_left, all_right}
-use Rattle.pc_readback.proofs.SignCosts.{is_counted}
 
 abbrev pub braces : List Terminal
 braces = terminal.OpenBrace ∷ terminal.CloseBrace ∷ []
@@ -37,36 +36,36 @@ pub level_behind : (f : Symbol → Bool) (ks : List Terminal) (s : Symbol) (c d 
 level_behind f ks s c d a i = let h = flat_by c.braces s.terminal (parted ks braces a (s ∷ []) i.is) in let g = i.braces in cc
 
 -- a word without braces leaves their count
-pub flat_on : (ks : List Terminal) → apart ks braces ≡ true → (c d : Counts) (w v : Text) → list_all (among ks) w ≡ true → counts c w v ≡ Ok d → d.braces ≡ c.braces
+pub flat_on : (ks : List Terminal) → apart ks braces ≡ true → (c d : Counts) (w v : Text) → list_all (among ks) w ≡ true → counts None c w v ≡ Ok d → d.braces ≡ c.braces
 flat_on ks a c d [] v h k = let same : c ≡ d = cc in ap (λ (c : Counts). c.braces) (sym same)
 flat_on ks a c d (s ∷ w) v h k =
     let p = and_is (among ks s) (list_all (among ks) w) h in
-    by p.0 (λ e k. flat_on ks a e d w v p.1 k) (counted c s (w ++ v)) refl k
+    by p.0 (λ e k. flat_on ks a e d w v p.1 k) (counted None c s (w ++ v)) refl k
   where
-    by : among ks s ≡ true → ((e : Counts) → counts e w v ≡ Ok d → d.braces ≡ e.braces) → (o : Result Counts ParseFault) → counted c s (w ++ v) ≡ o → and_on o (λ e. counts e w v) ≡ Ok d → d.braces ≡ c.braces
+    by : among ks s ≡ true → ((e : Counts) → counts None e w v ≡ Ok d → d.braces ≡ e.braces) → (o : Result Counts ParseFault) → counted None c s (w ++ v) ≡ o → and_on o (λ e. counts None e w v) ≡ Ok d → d.braces ≡ c.braces
     by m again (Err z) g k = absurd (cc)
     by m again (Ok e) g k =
         let h = flat_by c.braces s.terminal (parted ks braces a (s ∷ []) m) in
-        let i = (is_counted c e s (w ++ v) g).braces in
+        let i = (is_counted None c e s (w ++ v) g).braces in
         let same : e.braces ≡ c.braces = cc in
         again e k ∙ same
 
 module _ (f : Symbol → Bool) where
   -- of each word whose symbols pass the test and are within the limits, this holds of its tree and of the counts
   abbrev pub Sees : {A : Type 0} → Lang A → (A → Counts → Counts → Type 0) → Type 0
-  Sees {A} L Q = (a : A) (w v : Text) → L a w → list_all f w ≡ true → (c d : Counts) → counts c w v ≡ Ok d → Q a c d
+  Sees {A} L Q = (a : A) (w v : Text) → L a w → list_all f w ≡ true → (c d : Counts) → counts None c w v ≡ Ok d → Q a c d
 
   pub one_sees : (ks : List Terminal) → Sees (is_one_of ks) (IsOne f ks)
   one_sees ks s w v (m, e) h c d k =
       let fits = (and_is (f s) true (subst (λ (w : Text). list_all f w ≡ true) e h)).0 in
-      let at : and_on (counted c s v) (λ d. Ok d) ≡ Ok d = subst (λ (w : Text). counts c w v ≡ Ok d) e k in
-      by fits (counted c s v) refl at
+      let at : and_on (counted None c s v) (λ d. Ok d) ≡ Ok d = subst (λ (w : Text). counts None c w v ≡ Ok d) e k in
+      by fits (counted None c s v) refl at
     where
-      by : f s ≡ true → (o : Result Counts ParseFault) → counted c s v ≡ o → and_on o (λ d. Ok d) ≡ Ok d → IsOne f ks s c d
+      by : f s ≡ true → (o : Result Counts ParseFault) → counted None c s v ≡ o → and_on o (λ d. Ok d) ≡ Ok d → IsOne f ks s c d
       by fits (Err x) g k = absurd (cc)
       by fits (Ok x) g k =
           let same : x ≡ d = cc in
-          let i = is_counted c d s v (g ∙ ap (λ (z : Counts). Ok z) same) in
+          let i = is_counted None c d s v (g ∙ ap (λ (z : Counts). Ok z) same) in
           record { fits = fits; is = m; behind = i.behind; braces = i.braces }
 
   pub map_sees : {A B : Type 0} (g : A → B) (L : Lang A) (Q : A → Counts → Counts → Type 0) (R : B → Counts → Counts → Type 0) →
@@ -75,15 +74,15 @@ module _ (f : Symbol → Bool) where
 
   -- the same of one tree
   abbrev SeesAt : (Text → Type 0) → (Counts → Counts → Type 0) → Type 0
-  SeesAt W Q = (w v : Text) → W w → list_all f w ≡ true → (c d : Counts) → counts c w v ≡ Ok d → Q c d
+  SeesAt W Q = (w v : Text) → W w → list_all f w ≡ true → (c d : Counts) → counts None c w v ≡ Ok d → Q c d
 
   both_at : (V W : Text → Type 0) (Q R S : Counts → Counts → Type 0) → ((c e d : Counts) → Q c e → R e d → S c d) → SeesAt V Q → SeesAt W R →
-      (u u' w v : Text) → w ≡ u ++ u' → V u → W u' → list_all f w ≡ true → (c d : Counts) → counts c w v ≡ Ok d → S c d
+      (u u' w v : Text) → w ≡ u ++ u' → V u → W u' → list_all f w ≡ true → (c d : Counts) → counts None c w v ≡ Ok d → S c d
   both_at V W Q R S t q r u u' w v e l m h c d k =
       let all = subst (λ (w : Text). list_all f w ≡ true) e h in
-      by (counts c u (u' ++ v)) refl (sym (counts_append c u u' v) ∙ subst (λ (w : Text). counts c w v ≡ Ok d) e k) all
+      by (counts None c u (u' ++ v)) refl (sym (counts_append None c u u' v) ∙ subst (λ (w : Text). counts None c w v ≡ Ok d) e k) all
     where
-      by : (o : Result Counts ParseFault) → counts c u (u' ++ v) ≡ o → and_on o (λ d. counts d u' v) ≡ Ok d → list_all f (u ++ u') ≡ true → S c d
+      by : (o : Result Counts ParseFault) → counts None c u (u' ++ v) ≡ o → and_on o (λ d. counts None d u' v) ≡ Ok d → list_all f (u ++ u') ≡ true → S c d
       by (Ok i) g j all = t c i d (q u (u' ++ v) l (all_left f u u' all) c i g) (r u' v m (all_right f u u' all) i d j)
       by (Err z) g j all = absurd (cc)
 
@@ -95,8 +94,8 @@ module _ (f : Symbol → Bool) where
   either_sees L M Q q r a w v (inl l) h c d k = q a w v l h c d k
   either_sees L M Q q r a w v (inr m) h c d k = r a w v m h c d k
 
-  nothing : (w v : Text) (c d : Counts) → w ≡ [] → counts c w v ≡ Ok d → c ≡ d
-  nothing w v c d e k = let h : counts c [] v ≡ Ok d = subst (λ (w : Text). counts c w v ≡ Ok d) e k in cc
+  nothing : (w v : Text) (c d : Counts) → w ≡ [] → counts None c w v ≡ Ok d → c ≡ d
+  nothing w v c d e k = let h : counts None c [] v ≡ Ok d = subst (λ (w : Text). counts None c w v ≡ Ok d) e k in cc
 
   pub maybe_sees : {A : Type 0} (L : Lang A) (Q : A → Counts → Counts → Type 0) (R : Option A → Counts → Counts → Type 0) →
       ((c : Counts) → R None c c) → ((a : A) (c d : Counts) → Q a c d → R (Some a) c d) → Sees L Q → Sees (is_maybe L) R

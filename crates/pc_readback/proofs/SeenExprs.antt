@@ -136,7 +136,7 @@ module _ (src : Bytes) where
   few_by n m (suc a) b s h l = let k = h (omega arith) in omega arith
 
   module _ (n : ℕ) where
-    few : (t : ExprTree) (w v : Text) → grammar.is_expr_in (grammar.is_paren n) t w → (c d : Counts) → counts c w v ≡ Ok d → c.behind_keyword ≡ false → short.signs t level.Expression ≤ SIGNS
+    few : (t : ExprTree) (w v : Text) → grammar.is_expr_in (grammar.is_paren n) t w → (c d : Counts) → counts None c w v ≡ Ok d → c.behind_keyword ≡ false → short.signs t level.Expression ≤ SIGNS
     few t w v l c d k b =
         let i = signs_on c d w v (expr_over (grammar.is_paren n) (paren_over n) t w l) b k in
         few_by c.signs d.signs (cost w v) (short.signs t level.Expression) i.sum i.most (signs_cost n t w v l)

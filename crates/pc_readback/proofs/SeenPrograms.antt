@@ -1,5 +1,5 @@
 -- The parse tree of a text within the limits passes its test.
-use Rattle.std.proofs.Common.{◌≡◌, ℕ, ◌+◌, ◌≤◌, refl, ap, ◌∙◌, arith, List, [], ◌∷◌, Bool, true, false}
+use Rattle.std.proofs.Common.{◌≡◌, ℕ, ◌+◌, ◌≤◌, refl, ap, ◌∙◌, arith, List, [], ◌∷◌, Bool, true, false, None}
 use Rattle.std.specs.Prelude.{◌&&◌, ◌||◌, not, nat_le}
 use Rattle.std.specs.List.{list_all}
 use Rattle.pc_text.specs.Bytes.{Bytes}
@@ -12,6 +12,7 @@ use Rattle.pc_grammar.specs.declared.tree.ProgramTree.{ProgramTree}
 use Rattle.pc_grammar.specs.Combinators.{Text, is_map, is_both, is_maybe, is_many}
 use Rattle.pc_grammar.specs.Terminals.{the, is_one}
 use Rattle.pc_grammar.specs.Statements as stmts
+use Rattle.pc_grammar.specs.Starts.{Derives}
 use Rattle.pc_grammar.specs.Programs as programs
 use Rattle.pc_grammar.specs.Limits.{start, Within}
 use Rattle.pc_readback.specs.Showable.{is_literal}
@@ -129,5 +130,5 @@ module _ (src : Bytes) where
       (one_sees (spelled src) (terminal.OpenBrace ∷ [])) (body_sees n))))
 
 -- the tree of symbols that are spelled and within the limits
-pub derived_short : (src : Bytes) (t : ProgramTree) (w : Text) → programs.Derives t w → Within w [] → list_all (spelled src) w ≡ true → short.short_tree src t ≡ true
+pub derived_short : (src : Bytes) (t : ProgramTree) (w : Text) → Derives programs.programs t w → Within None w [] → list_all (spelled src) w ≡ true → short.short_tree src t ≡ true
 derived_short src t w (n, l) (d, k) h = program_sees src n t w [] l h start d k refl

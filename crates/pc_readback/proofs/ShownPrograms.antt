@@ -3,15 +3,13 @@ use Rattle.std.proofs.Common.{◌≡◌, ℕ, ◌+◌, refl, ap, sym, ◌∙◌,
 use Rattle.std.specs.Prelude.{◌&&◌, IfOk, not, is_some, nat_lt, nat_le}
 use Rattle.std.specs.List.{list_all}
 use Rattle.pc_text.specs.Bytes.{Bytes}
-use Rattle.pc_text.specs.Named.{Named, number_of}
+use Rattle.pc_text.specs.Named.{number_of}
 use Rattle.pc_rows.specs.declared.row.TheConstants.{VARIABLES}
 use Rattle.pc_grammar.specs.declared.symbol.Symbol.{Symbol}
 use Rattle.pc_language.specs.declared.limits.TheConstants.{BRACES}
-use Rattle.pc_grammar.specs.declared.tree.StmtTree.{StmtTree}
 use Rattle.pc_grammar.specs.declared.tree.ProgramTree.{ProgramTree}
 use Rattle.pc_syntax.specs.declared.fault.SourceFault.{SourceFault}
 use Rattle.pc_syntax.specs.declared.fault.SourceFault.TheVariants as fault
-use Rattle.pc_syntax.specs.declared.walk.CountedList.{CountedList}
 use Rattle.pc_program.specs.Forms.{bind}
 use Rattle.pc_syntax.specs.Context as walk
 use Rattle.pc_syntax.specs.Context.{Content}

@@ -1,5 +1,5 @@
 -- The counted signs of the words of expressions: no fewer than those of their canonical texts, and within the limit no more than it.
-use Rattle.std.proofs.Common.{◌≡◌, ℕ, zero, suc, ◌+◌, ◌<◌, ◌≤◌, refl, ap, sym, ◌∙◌, arith, [], ◌∷◌, ◌++◌, append_assoc, Bool, true, false, cond, Option, Some, None, Result, Ok, Err}
+use Rattle.std.proofs.Common.{◌≡◌, ℕ, zero, suc, ◌+◌, ◌<◌, ◌≤◌, refl, ap, sym, ◌∙◌, arith, [], ◌∷◌, ◌++◌, append_assoc, Bool, true, false, cond, Some, None, Result, Ok, Err}
 use Rattle.std.specs.Prelude.{nat_lt}
 use Rattle.std.specs.List.{list_all}
 use Rattle.std.proofs.lemmas.Bool.{ltb-true}
@@ -8,10 +8,10 @@ use Rattle.pc_language.specs.declared.terminal.Terminal.{Terminal}
 use Rattle.pc_grammar.specs.declared.limits.Counts.{Counts}
 use Rattle.pc_language.specs.declared.limits.TheConstants.{SIGNS}
 use Rattle.pc_grammar.specs.declared.fault.ParseFault.{ParseFault}
-use Rattle.pc_grammar.specs.declared.fault.ParseFault.TheVariants.{TooDeep, TooLong}
 use Rattle.pc_grammar.specs.Combinators.{Text}
 use Rattle.pc_grammar.specs.Terminals.{among, has}
-use Rattle.pc_grammar.specs.Limits.{keywords, of_expressions, signs_after, is_sign, or_else, braces_after, ands_after, counted, and_on, counts}
+use Rattle.pc_grammar.specs.Limits.{keywords, of_expressions, signs_after, is_sign, counted, and_on, counts}
+use Rattle.pc_grammar.proofs.Scans.{is_counted}
 use Rattle.pc_grammar.proofs.Sets.{parted}
 use Rattle.pc_program.proofs.Results.{and_is}
 
@@ -52,45 +52,22 @@ step_signs n m false t h e = by (has of_expressions t) h e
     by true h e = let f : n ≡ m = cc in record { sum = omega arith; most = λ k. absurd (omega arith) }
     by false h e = absurd (cc)
 
--- the counts after a symbol
-pub record IsCounted (c : Counts) (s : Symbol) (r : Text) (d : Counts) : Type 0 where
-  pub braces : braces_after c.braces s.terminal ≡ Some d.braces
-  pub signs : signs_after c.signs (is_sign s.terminal c.behind_keyword r) s.terminal ≡ Some d.signs
-  pub behind : d.behind_keyword ≡ has keywords s.terminal
-
-pub is_counted : (c d : Counts) (s : Symbol) (r : Text) → counted c s r ≡ Ok d → IsCounted c s r d
-is_counted c d s r h = by (braces_after c.braces s.terminal) (signs_after c.signs (is_sign s.terminal c.behind_keyword r) s.terminal) (ands_after c.ands s.terminal) refl refl h
-  where
-    by : (x y z : Option ℕ) → braces_after c.braces s.terminal ≡ x → signs_after c.signs (is_sign s.terminal c.behind_keyword r) s.terminal ≡ y →
-        or_else x (TooDeep s.place) (λ braces. or_else y (TooLong s.place) (λ signs. or_else z (TooLong s.place) (λ ands. Ok (record { braces = braces; signs = signs; ands = ands; behind_keyword = has keywords s.terminal })))) ≡ Ok d →
-        IsCounted c s r d
-    by None y z e f h = absurd (cc)
-    by (Some x) None z e f h = absurd (cc)
-    by (Some x) (Some y) None e f h = absurd (cc)
-    by (Some x) (Some y) (Some z) e f h =
-        let g : record { braces = x; signs = y; ands = z; behind_keyword = has keywords s.terminal } ≡ d = cc in
-        record {
-          braces = e ∙ ap (λ (c : Counts). Some c.braces) g;
-          signs = f ∙ ap (λ (c : Counts). Some c.signs) g;
-          behind = sym (ap (λ (c : Counts). c.behind_keyword) g);
-        }
-
 most_signs : (n e d a b : ℕ) → e ≡ n + a → d ≡ e + b → (0 < a → e ≤ SIGNS) → (0 < b → d ≤ SIGNS) → 0 < a + b → d ≤ SIGNS
 most_signs n e d a zero x y f g h = let k = f (omega arith) in omega arith
 most_signs n e d a (suc b) x y f g h = g (omega arith)
 
 -- behind no keyword, a word of expressions raises the count of signs by its own
-pub signs_on : (c d : Counts) (w v : Text) → list_all (among of_expressions) w ≡ true → c.behind_keyword ≡ false → counts c w v ≡ Ok d → CountsSigns c.signs d.signs (cost w v)
+pub signs_on : (c d : Counts) (w v : Text) → list_all (among of_expressions) w ≡ true → c.behind_keyword ≡ false → counts None c w v ≡ Ok d → CountsSigns c.signs d.signs (cost w v)
 signs_on c d [] v h b k = let f : c ≡ d = cc in let g = ap (λ (c : Counts). c.signs) f in record { sum = omega arith; most = λ l. absurd (omega arith) }
 signs_on c d (s ∷ w) v h b k =
     let p = and_is (among of_expressions s) (list_all (among of_expressions) w) h in
-    by p.0 (λ e b k. signs_on e d w v p.1 b k) (counted c s (w ++ v)) refl k
+    by p.0 (λ e b k. signs_on e d w v p.1 b k) (counted None c s (w ++ v)) refl k
   where
-    by : among of_expressions s ≡ true → ((e : Counts) → e.behind_keyword ≡ false → counts e w v ≡ Ok d → CountsSigns e.signs d.signs (cost w v)) →
-        (o : Result Counts ParseFault) → counted c s (w ++ v) ≡ o → and_on o (λ e. counts e w v) ≡ Ok d → CountsSigns c.signs d.signs (cost (s ∷ w) v)
+    by : among of_expressions s ≡ true → ((e : Counts) → e.behind_keyword ≡ false → counts None e w v ≡ Ok d → CountsSigns e.signs d.signs (cost w v)) →
+        (o : Result Counts ParseFault) → counted None c s (w ++ v) ≡ o → and_on o (λ e. counts None e w v) ≡ Ok d → CountsSigns c.signs d.signs (cost (s ∷ w) v)
     by p again (Err f) g k = absurd (cc)
     by p again (Ok e) g k =
-        let i = is_counted c e s (w ++ v) g in
+        let i = is_counted None c e s (w ++ v) g in
         let one = step_signs c.signs e.signs (is_sign s.terminal false (w ++ v)) s.terminal p (ap (λ b. signs_after c.signs (is_sign s.terminal b (w ++ v)) s.terminal) (sym b) ∙ i.signs) in
         let rest = again e (i.behind ∙ parted of_expressions keywords refl (s ∷ []) p) k in
         let s1 = one.sum in let s2 = rest.sum in let m1 = one.most in let m2 = rest.most in

@@ -1,11 +1,10 @@
 -- The symbols of a text: names are spelled by names of the language, and numbers are those of tokens.
-use Rattle.std.proofs.Common.{◌≡◌, ℕ, ◌+◌, ◌-◌, ◌≤◌, pos, refl, ap, sym, ◌∙◌, arith, List, [], ◌∷◌, ◌++◌, append_assoc, length, length-append, take, drop, Bool, true, false, cond, Some, Ok}
+use Rattle.std.proofs.Common.{◌≡◌, ℕ, ◌+◌, ◌≤◌, pos, refl, ap, sym, ◌∙◌, arith, List, [], ◌∷◌, ◌++◌, append_assoc, length, length-append, Bool, true, false, cond, Some, Ok}
 use Rattle.std.specs.Prelude.{◌&&◌, ◌||◌, not, nat_le, slice_range, bytes_eq, codes, nat_eq}
 use Rattle.std.specs.List.{list_all}
-use Rattle.std.proofs.lemmas.List.{take_at, drop_at}
 use Rattle.std.proofs.lemmas.Bool.Decides.{nat_tests}
 use Rattle.pc_text.specs.Bytes.{Bytes}
-use Rattle.pc_text.specs.Lexemes.{Lexeme, HasForm, EachPasses, AllFit, Fits, IsSplit, class, in_word, kind_of, is_keyword, with_token, tokens_from}
+use Rattle.pc_text.specs.Lexemes.{Lexeme, HasForm, AllFit, Fits, IsSplit, class, in_word, kind_of, is_keyword, with_token, tokens_from}
 use Rattle.pc_text.specs.Digits.{natural_of}
 use Rattle.pc_text.specs.declared.token.Token.{Token}
 use Rattle.pc_text.specs.declared.token.Kind.{Kind}

@@ -203,7 +203,7 @@ module _ (n : ℕ) (P : Lang ExprTree) (o : Over of_expressions P) (p : Passes n
 
   few : (cs : List CompareTree) (w v : Text) → stmts.is_all P cs w → Good n w v → length cs ≤ COMPARISONS
   few cs w v ((x, ys), e, (u, u', q, l, m)) good =
-      let k = ands_on good.before good.after w v (all_over P o cs w ((x, ys), e, (u, u', q, l, m))) good.limits in
+      let k = ands_on good.most good.before good.after w v (all_over P o cs w ((x, ys), e, (u, u', q, l, m))) good.limits in
       let s = k.sum in
       let m1 = k.most in
       let h = parted_by_ands (stmts.is_compare P) ys u' m in

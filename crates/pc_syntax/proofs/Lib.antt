@@ -9,4 +9,5 @@ pub mod Phrases
 pub mod PhraseSymbols
 pub mod ExprFits
 pub mod TreeFits
+pub mod TextLemmas
 pub mod Readings

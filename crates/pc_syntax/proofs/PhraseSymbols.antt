@@ -9,13 +9,13 @@ use Rattle.pc_language.specs.declared.terminal.Terminal.TheVariants as terminal
 use Rattle.pc_grammar.specs.declared.limits.Counts.{Counts}
 use Rattle.pc_language.specs.declared.limits.TheConstants.{COMPARISONS}
 use Rattle.pc_grammar.specs.declared.fault.ParseFault.{ParseFault}
-use Rattle.pc_grammar.specs.declared.fault.ParseFault.TheVariants.{TooDeep, TooLong}
 use Rattle.pc_grammar.specs.declared.tree.ExprTree.{ExprTree}
 use Rattle.pc_grammar.specs.Combinators.{Text, Lang, is_map, is_both, is_either, is_maybe, is_many}
 use Rattle.pc_grammar.specs.Terminals.{among, has, is_one, is_one_of}
 use Rattle.pc_grammar.specs.Expressions as grammar
 use Rattle.pc_grammar.specs.Statements as stmts
-use Rattle.pc_grammar.specs.Limits.{keywords, of_expressions, ands_after, or_else, braces_after, signs_after, is_sign, counted, and_on, counts}
+use Rattle.pc_grammar.specs.Limits.{keywords, of_expressions, ands_after, counted, and_on, counts}
+use Rattle.pc_grammar.proofs.Scans.{is_counted}
 use Rattle.pc_grammar.proofs.Sets.{parted, wider}
 use Rattle.pc_program.proofs.Results.{and_is, and_of}
 use Rattle.pc_syntax.proofs.Phrases.{Over, one_over, map_over, both_over, either_over, maybe_over, many_over, dead_over}
@@ -101,32 +101,21 @@ step_on : (n m : ℕ) (t : Terminal) → has keywords t ≡ false → ands_after
 step_on n m terminal.And h e = one_on n m (nat_lt n (COMPARISONS - 1)) refl e
 step_on n m t h e = none_on n m (has keywords t) h e
 
-counted_on : (c e : Counts) (s : Symbol) (r : Text) → counted c s r ≡ Ok e → ands_after c.ands s.terminal ≡ Some e.ands
-counted_on c e s r h = by (braces_after c.braces s.terminal) (signs_after c.signs (is_sign s.terminal c.behind_keyword r) s.terminal) (ands_after c.ands s.terminal) h
-  where
-    by : (x y z : Option ℕ) →
-        or_else x (TooDeep s.place) (λ braces. or_else y (TooLong s.place) (λ signs. or_else z (TooLong s.place) (λ ands. Ok (record { braces = braces; signs = signs; ands = ands; behind_keyword = has keywords s.terminal })))) ≡ Ok e →
-        z ≡ Some e.ands
-    by None y z h = absurd (cc)
-    by (Some x) None z h = absurd (cc)
-    by (Some x) (Some y) None h = absurd (cc)
-    by (Some x) (Some y) (Some z) h = let f : record { braces = x; signs = y; ands = z; behind_keyword = has keywords s.terminal } ≡ e = cc in ap (λ (c : Counts). Some c.ands) f
-
 most_on : (n e d a b : ℕ) → e ≡ n + a → d ≡ e + b → (0 < a → e < COMPARISONS) → (0 < b → d < COMPARISONS) → 0 < a + b → d < COMPARISONS
 most_on n e d a zero x y f g h = let k = f (omega arith) in omega arith
 most_on n e d a (suc b) x y f g h = g (omega arith)
 
-pub ands_on : (c d : Counts) (w v : Text) → list_all (among of_conjunctions) w ≡ true → counts c w v ≡ Ok d → Counts_on c.ands d.ands (ands w)
-ands_on c d [] v h k = let f : c ≡ d = cc in let g = ap (λ (c : Counts). c.ands) f in record { sum = omega arith; most = λ l. absurd (omega arith) }
-ands_on c d (s ∷ w) v h k =
+pub ands_on : (most : Option ℕ) (c d : Counts) (w v : Text) → list_all (among of_conjunctions) w ≡ true → counts most c w v ≡ Ok d → Counts_on c.ands d.ands (ands w)
+ands_on most c d [] v h k = let f : c ≡ d = cc in let g = ap (λ (c : Counts). c.ands) f in record { sum = omega arith; most = λ l. absurd (omega arith) }
+ands_on most c d (s ∷ w) v h k =
     let p = and_is (among of_conjunctions s) (list_all (among of_conjunctions) w) h in
-    by p.0 (λ e k. ands_on e d w v p.1 k) (counted c s (w ++ v)) refl k
+    by p.0 (λ e k. ands_on most e d w v p.1 k) (counted most c s (w ++ v)) refl k
   where
-    by : among of_conjunctions s ≡ true → ((e : Counts) → counts e w v ≡ Ok d → Counts_on e.ands d.ands (ands w)) →
-        (o : Result Counts ParseFault) → counted c s (w ++ v) ≡ o → and_on o (λ e. counts e w v) ≡ Ok d → Counts_on c.ands d.ands (ands (s ∷ w))
+    by : among of_conjunctions s ≡ true → ((e : Counts) → counts most e w v ≡ Ok d → Counts_on e.ands d.ands (ands w)) →
+        (o : Result Counts ParseFault) → counted most c s (w ++ v) ≡ o → and_on o (λ e. counts most e w v) ≡ Ok d → Counts_on c.ands d.ands (ands (s ∷ w))
     by p again (Err f) g k = absurd (cc)
     by p again (Ok e) g k =
-        let one = step_on c.ands e.ands s.terminal (parted of_conjunctions keywords refl (s ∷ []) p) (counted_on c e s (w ++ v) g) in
+        let one = step_on c.ands e.ands s.terminal (parted of_conjunctions keywords refl (s ∷ []) p) (is_counted most c e s (w ++ v) g).ands in
         let rest = again e k in
         let s1 = one.sum in let s2 = rest.sum in let m1 = one.most in let m2 = rest.most in
         record { sum = omega arith; most = λ l. most_on c.ands e.ands d.ands (is_and s.terminal) (ands w) s1 s2 m1 m2 l }

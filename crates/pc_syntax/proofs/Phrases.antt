@@ -60,15 +60,16 @@ dead_over ks a w l = absurd l
 -- a word whose symbols fit a text of n bytes, and which stays within the limits where it stands before v
 pub record Good (n : ℕ) (w v : Text) : Type 0 where
   pub all : list_all (fits n) w ≡ true
+  pub most : Option ℕ
   pub before : Counts
   pub after : Counts
-  pub limits : counts before w v ≡ Ok after
+  pub limits : counts most before w v ≡ Ok after
 
 pub good_both : (n : ℕ) (u w v : Text) → Good n (u ++ w) v → Good n u (w ++ v) × Good n w v
-good_both n u w v g = by (counts g.before u (w ++ v)) refl (sym (counts_append g.before u w v) ∙ g.limits)
+good_both n u w v g = by (counts g.most g.before u (w ++ v)) refl (sym (counts_append g.most g.before u w v) ∙ g.limits)
   where
-    by : (o : Result Counts _) → counts g.before u (w ++ v) ≡ o → and_on o (λ d. counts d w v) ≡ Ok g.after → Good n u (w ++ v) × Good n w v
-    by (Ok e) h k = (record { all = all_left (fits n) u w g.all; before = g.before; after = e; limits = h }, record { all = all_right (fits n) u w g.all; before = e; after = g.after; limits = k })
+    by : (o : Result Counts _) → counts g.most g.before u (w ++ v) ≡ o → and_on o (λ d. counts g.most d w v) ≡ Ok g.after → Good n u (w ++ v) × Good n w v
+    by (Ok e) h k = (record { all = all_left (fits n) u w g.all; most = g.most; before = g.before; after = e; limits = h }, record { all = all_right (fits n) u w g.all; most = g.most; before = e; after = g.after; limits = k })
     by (Err f) h k = absurd (cc)
 
 -- of each good word of the language the tree passes the test

@@ -20,6 +20,7 @@ use Rattle.pc_grammar.specs.Terminals.{is_one}
 use Rattle.pc_grammar.specs.Expressions as grammar
 use Rattle.pc_grammar.specs.Rights as rights
 use Rattle.pc_grammar.specs.Statements as stmts
+use Rattle.pc_grammar.specs.Starts.{Derives}
 use Rattle.pc_grammar.specs.Programs as programs
 use Rattle.pc_grammar.specs.Limits.{of_expressions, start, Within}
 use Rattle.pc_syntax.specs.Trees.{fit_symbol, fit_expr, fit_each, fit_all, fit_test, fit_right, fit_stmt_step, fit_stmt, fit_stmts, fit_tree}
@@ -189,5 +190,5 @@ module _ (n : ℕ) where
       (stmts_pass n (grammar.is_paren m) (paren_over m) (paren_passes n m) (stmts.is_block m) (block_passes n m)) (one_passes n (terminal.CloseBrace ∷ [])))))))
 
 -- the parse tree of symbols that fit
-pub derived_fits : (n : ℕ) (t : ProgramTree) (w : Text) → programs.Derives t w → Within w [] → list_all (fits n) w ≡ true → fit_tree n t ≡ true
-derived_fits n t w (m, l) (d, k) h = program_passes n m t w [] l (record { all = h; before = start; after = d; limits = k })
+pub derived_fits : (n : ℕ) (t : ProgramTree) (w : Text) → Derives programs.programs t w → Within programs.programs.most w [] → list_all (fits n) w ≡ true → fit_tree n t ≡ true
+derived_fits n t w (m, l) (d, k) h = program_passes n m t w [] l (record { all = h; most = programs.programs.most; before = start; after = d; limits = k })

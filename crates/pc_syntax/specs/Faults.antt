@@ -16,7 +16,7 @@ abbrev pub source_fault : AffineFault → SourceFault
 source_fault (affine.NotAffine p) = fault.NotAffine p
 source_fault (affine.Past p) = fault.FormPast p
 
--- a lexical fault, and a fault of the grammar
+-- a lexical fault, and a fault of the grammar: a program has as many blocks as it likes
 abbrev pub of_tokens : LexFault → SourceFault
 of_tokens (lex.BadByte p b) = fault.BadByte p b
 of_tokens (lex.LiteralTooBig p) = fault.LiteralTooBig p
@@ -27,6 +27,7 @@ abbrev pub of_tree : ParseFault → SourceFault
 of_tree (parse.Syntax p) = fault.Syntax p
 of_tree (parse.TooDeep p) = fault.TooDeep p
 of_tree (parse.TooLong p) = fault.TooLong p
+of_tree (parse.TooManyProcesses p) = fault.Syntax p
 of_tree parse.NoMemory = fault.NoMemory
 
 -- a call answers what is wanted, unless memory fails

@@ -87,6 +87,8 @@ impl From<ParseFault> for SourceFault {
             ParseFault::Syntax(place) => SourceFault::Syntax(place),
             ParseFault::TooDeep(place) => SourceFault::TooDeep(place),
             ParseFault::TooLong(place) => SourceFault::TooLong(place),
+            // No program has it: its blocks are not counted.
+            ParseFault::TooManyProcesses(place) => SourceFault::Syntax(place),
             ParseFault::NoMemory => SourceFault::NoMemory,
         }
     }

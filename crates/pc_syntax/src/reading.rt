@@ -4,7 +4,9 @@ ghost use Rattle.std.specs.Prelude.{◌≢◌, ◌<◌, ◌-◌, ◌^◌, length
 ghost use Rattle.pc_program.specs.declared.program.Program.{Program};
 ghost use Rattle.pc_syntax.specs.declared.fault.SourceFault.{SourceFault};
 ghost use Rattle.pc_syntax.specs.declared.fault.SourceFault.TheVariants.{NoMemory};
-ghost use Rattle.pc_syntax.specs.Spelling.{Spells, Faulty, Means, AlikeUnless, GivesProgram, with_fault, tree_of, content_at};
+ghost use Rattle.pc_grammar.specs.Programs.{programs};
+ghost use Rattle.pc_syntax.specs.Texts.{with_fault, tree_of, content_at};
+ghost use Rattle.pc_syntax.specs.Spelling.{of_programs, Spells, Faulty, Means, AlikeUnless, GivesProgram};
 ghost use Rattle.pc_grammar.specs.Parsing.{parsed};
 ghost use Rattle.pc_syntax.specs.Faults.{Gives, of_tree};
 
@@ -29,7 +31,7 @@ pub fn read(alloc: Global, src: &[u8]) -> Result<Program, SourceFault>
 /// The program of the content that a text has.
 fn read_content(alloc: Global, src: &[u8]) -> Result<Program, SourceFault>
     requires { length src.now < 2 ^ 32 - 1 }
-    ensures { GivesProgram result (content_at src.now) }
+    ensures { GivesProgram result (content_at of_programs src.now) }
 {
     let tree = tree(alloc, src)?;
     walk_tree(alloc, src, &tree)
@@ -38,7 +40,7 @@ fn read_content(alloc: Global, src: &[u8]) -> Result<Program, SourceFault>
 /// The parse tree of a text.
 fn tree(alloc: Global, src: &[u8]) -> Result<ProgramTree, SourceFault>
     requires { length src.now < 2 ^ 32 - 1 }
-    ensures { Gives result (tree_of src.now) }
+    ensures { Gives result (tree_of programs src.now) }
 {
     let found = tokens(alloc, src)?;
     let symbols = symbols(alloc, src, found.as_slice())?;
@@ -48,7 +50,7 @@ fn tree(alloc: Global, src: &[u8]) -> Result<ProgramTree, SourceFault>
 
 /// The parse tree of the symbols of a text that ends at `end`.
 fn tree_at(alloc: Global, symbols: &[Symbol], end: Place) -> Result<ProgramTree, SourceFault>
-    ensures { Gives result (with_fault of_tree (parsed symbols.now end)) }
+    ensures { Gives result (with_fault of_tree (parsed programs symbols.now end)) }
 {
     let tree = parse(alloc, symbols, end)?;
     Ok(tree)

@@ -1,9 +1,10 @@
 use Rattle.std.proofs.Common.{subst}
+use Rattle.pc_grammar.specs.Programs.{programs}
 use Rattle.pc_grammar.specs.Parsing.{Gives, parsed_by}
 use Rattle.pc_grammar.proofs.parsing.read.Goals as goal
 
 pub returns-in-Some : goal.returns-in-Some
-returns-in-Some c = subst (λ o. Gives c.read_front.result (parsed_by o c.args.symbols.now c.args.end)) c.in-Some.ensures.first c.read_front.ensures
+returns-in-Some c = subst (λ o. Gives c.read_front.result (parsed_by programs o c.args.symbols.now c.args.end)) c.in-Some.ensures.first c.read_front.ensures
 
 pub returns-in-None : goal.returns-in-None
-returns-in-None c = subst (λ o. Gives c.read_front-in-None.result (parsed_by o c.args.symbols.now c.args.end)) c.in-None.ensures.first c.read_front-in-None.ensures
+returns-in-None c = subst (λ o. Gives c.read_front-in-None.result (parsed_by programs o c.args.symbols.now c.args.end)) c.in-None.ensures.first c.read_front-in-None.ensures
