@@ -6,7 +6,7 @@ use Rattle.pc_rows.specs.Evidence.{Proof}
 use Rattle.pc_lines.specs.declared.sizes.Sizes.{Sizes}
 use Rattle.pc_lines.specs.Kinds.{just, graph, sizes_of}
 use Rattle.pc_lines.specs.Faults.{in_order}
-use Rattle.pc_lines.specs.Readers.{◌>>=◌, Unread, Reader, read_line, repeated, row_value, proof_value, row_reader, proof_reader}
+use Rattle.pc_lines.specs.Readers.{◌>>=◌, Unread, read_line, repeated, row_value, proof_value, row_reader, proof_reader}
 use Rattle.pc_lines.proofs.LineReading.{give}
 use Rattle.pc_lines.proofs.FaultReading.{Brings, FindsFault, line_brings, first_finds, bound_finds, followed_finds, repeated_finds, headed_finds}
 use Rattle.pc_certificate.specs.declared.certificate.Annotated.{Annotated}

@@ -1,15 +1,14 @@
 -- The words of a certificate's lines are plain.
-use Rattle.std.proofs.Common.{ℕ, ◌+◌, List, [], ◌∷◌, ◌++◌, map, take}
+use Rattle.std.proofs.Common.{ℕ, List, [], ◌∷◌, take}
 use Rattle.std.specs.Prelude.{codes}
-use Rattle.std.specs.List.{AllByRecursion, flat_map}
+use Rattle.std.specs.List.{flat_map}
 use Rattle.pc_rows.specs.Linear.{Linear}
 use Rattle.pc_rows.specs.Evidence.{Proof}
 use Rattle.pc_certificate.specs.declared.certificate.Annotated.{Annotated}
 use Rattle.pc_certificate.specs.Certificate.{Certificate}
-use Rattle.pc_text.specs.Words.{Words}
 use Rattle.pc_lines.specs.Texts.{row_line, proof_line, numbered}
 use Rattle.pc_cert.specs.CertificateTexts.{point_lines, edge_lines, alternative_lines, certificate_lines}
-use Rattle.pc_text.proofs.PlainWords.{IsPlain, numerals_plain}
+use Rattle.pc_text.proofs.PlainWords.{numerals_plain}
 use Rattle.pc_lines.proofs.ProofSpelling.{proof_plain}
 use Rattle.pc_lines.proofs.HeadSpelling.{counts_plain, graph_plain}
 use Rattle.pc_lines.proofs.PlainTexts.{ArePlainLines, both_plain, map_plain, numbered_plain, flat_plain}

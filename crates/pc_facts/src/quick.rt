@@ -36,11 +36,7 @@ fn entry_rows<B: Backward>(alloc: Global, g: &Graph) -> Result<Items<Row>, NoMem
 }
 
 /// The rows, where all variables from number `params` on are 0.
-fn over_parameters(
-    alloc: Global,
-    rows: &[Row],
-    params: u32,
-) -> Result<Items<Row>, NoMemory>
+fn over_parameters(alloc: Global, rows: &[Row], params: u32) -> Result<Items<Row>, NoMemory>
     ensures { IfOk result (λ over. over ≡ over_parameters params rows.now) }
 {
     let mut over = Items::new(alloc);

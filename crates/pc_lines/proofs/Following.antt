@@ -1,5 +1,5 @@
 -- A reader behind a reader reads the lines of both.
-use Rattle.std.proofs.Common.{◌≡◌, ◌∙◌, refl, ap, sym, subst, ℕ, List, [], ◌++◌, map, append_assoc, Result, Ok, Err}
+use Rattle.std.proofs.Common.{◌≡◌, ◌∙◌, refl, ap, sym, subst, ℕ, List, ◌++◌, map, append_assoc, Result, Ok, Err}
 use Rattle.std.proofs.lemmas.List.{map-append}
 use Rattle.pc_text.specs.Bytes.{Bytes}
 use Rattle.pc_text.specs.Words.{Words}
@@ -13,9 +13,6 @@ use Rattle.pc_lines.proofs.LineReading.{AreTaken, ReadsLines, ok_same, give}
 pub bind_ok : (A B : Type 0) (r : Result A CertFault) (f : A → Result B CertFault) (y : B) → (r >>= f) ≡ Ok y → (x : A) × (r ≡ Ok x) × (f x ≡ Ok y)
 bind_ok A B (Ok x) f y e = (x, refl, e)
 bind_ok A B (Err g) f y e = absurd (cc)
-
-pub taken_none : (s : Unread) → AreTaken [] s s
-taken_none s = record { lines = refl; tail = refl }
 
 taken_both : (a b : List Words) (s mid left : Unread) → AreTaken a s mid → AreTaken b mid left → AreTaken (a ++ b) s left
 taken_both a b s mid left h g = record {

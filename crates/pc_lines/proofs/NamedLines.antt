@@ -1,11 +1,11 @@
 -- Lines that have a name, and those that are just one text.
-use Rattle.std.proofs.Common.{◌≡◌, ◌∙◌, refl, ap, sym, Bool, true, false, [], ◌∷◌}
+use Rattle.std.proofs.Common.{◌≡◌, ◌∙◌, refl, ap, sym, Bool, true, [], ◌∷◌}
 use Rattle.std.specs.Prelude.{bytes_eq}
 use Rattle.std.proofs.lemmas.Bool.{and_parts}
 use Rattle.std.proofs.lemmas.Slice.Eq.{bytes_eq-Decides}
 use Rattle.pc_rows.proofs.Tests.{same_truth}
 use Rattle.pc_text.specs.Bytes.{Bytes}
-use Rattle.pc_text.specs.Words.{Words, words, is_empty}
+use Rattle.pc_text.specs.Words.{Words, words}
 use Rattle.pc_text.proofs.NumeralWords.{empty_is}
 use Rattle.pc_text.proofs.WordLists.{joined, line_of_words}
 use Rattle.pc_lines.specs.Forms.{is_named, is_just}

@@ -33,8 +33,7 @@ fn part_of(index: u32, multiplier: Word, premises: u32, least: u32) -> Option<Pa
     ensures { result ≡ spec.part_of premises least index multiplier }
 {
     match multiplier {
-        Word::Number(multiplier)
-            if least <= index && index < premises && !(multiplier == 0) => {
+        Word::Number(multiplier) if least <= index && index < premises && !(multiplier == 0) => {
             let multiplier = Number::new(multiplier);
             Some(Part { index, multiplier })
         }
@@ -72,12 +71,7 @@ fn next_part(
 }
 
 /// The parts of the words that are left in line `number`.
-fn parts(
-    alloc: Global,
-    words: &mut Words,
-    premises: u32,
-    number: u32,
-) -> Result<Parts, CertFault>
+fn parts(alloc: Global, words: &mut Words, premises: u32, number: u32) -> Result<Parts, CertFault>
     requires { premises ≤ PREMISES }
     ensures { Gives (spec.parts_from premises number 0 [] words.old) result }
 {

@@ -16,8 +16,6 @@ impl Sizes {
     pub(crate) fn are_within(self, most: Sizes) -> bool
         ensures { result ≡ are_within most self }
     {
-        self.points <= most.points
-            && self.edges <= most.edges
-            && self.variables <= most.variables
+        self.points <= most.points && self.edges <= most.edges && self.variables <= most.variables
     }
 }

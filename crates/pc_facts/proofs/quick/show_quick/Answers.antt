@@ -1,4 +1,4 @@
-use Rattle.std.proofs.Common.{◌≡◌, ◌∙◌, length, sym, subst, rules}
+use Rattle.std.proofs.Common.{◌≡◌, length, sym, subst, rules}
 use Rattle.std.specs.Prelude.{All}
 use Rattle.pc_rows.specs.Linear.{IsOver}
 use Rattle.pc_facts.specs.Quick.{over_parameters}
