@@ -34,20 +34,12 @@ use Rattle.pc_readback.proofs.ComparesAgain.{IsCompare, AreCompares, IsTest, com
 
 sign_is : (o : Op) → has grammar.operators (sign_of o) ≡ true
 sign_is op.Less = refl
-sign_is op.AtMost = refl
-sign_is op.Greater = refl
-sign_is op.AtLeast = refl
-sign_is op.Equal = refl
-sign_is op.Unequal = refl
+sign_is o = refl
 
 -- a sign says its operator
 sign_says : (o : Op) → grammar.op_of (sign_of o) ≡ o
 sign_says op.Less = refl
-sign_says op.AtMost = refl
-sign_says op.Greater = refl
-sign_says op.AtLeast = refl
-sign_says op.Equal = refl
-sign_says op.Unequal = refl
+sign_says o = refl
 
 module _ (src : Bytes) (names : List Bytes) (distinct : AreDistinct names) where
   -- an expression that keeps the context rules

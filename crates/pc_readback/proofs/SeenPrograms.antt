@@ -18,8 +18,8 @@ use Rattle.pc_grammar.specs.Limits.{start, Within}
 use Rattle.pc_readback.specs.Showable.{is_literal}
 use Rattle.pc_readback.specs.ShownTrees as short
 use Rattle.pc_program.proofs.Results.{and_is, and_of, at_most}
-use Rattle.pc_syntax.proofs.Phrases.{all_join}
-use Rattle.pc_readback.proofs.Seen.{IsOne, level_behind, Sees, one_sees, map_sees, both_sees, maybe_sees, many_sees}
+use Rattle.pc_syntax.proofs.Phrases.{all_join, IsOne, Sees, one_sees, map_sees, both_sees, maybe_sees, many_sees}
+use Rattle.pc_readback.proofs.Seen.{level_behind}
 use Rattle.pc_readback.proofs.SeenExprs.{spelled, Passes}
 use Rattle.pc_readback.proofs.SeenTests.{Holds, seconds_are, enclosed_sees}
 use Rattle.pc_readback.proofs.Nesting.{Nests, opening}
@@ -43,8 +43,8 @@ module _ (src : Bytes) where
   flat_named (xs ∷ xss) h = let p = and_is (Named xs) (list_all Named xss) h in all_join (short.spells_name src) xs (programs.flat xss) p.0 (flat_named xss p.1)
 
   name_holds : Sees (spelled src) (is_one terminal.Name) (λ s. Holds (short.spells_name src s))
-  name_holds s w v l h c d k =
-      let i = one_sees (spelled src) (terminal.Name ∷ []) s w v l h c d k in
+  name_holds s w v l h most c d k =
+      let i = one_sees (spelled src) (terminal.Name ∷ []) s w v l h most c d k in
       record { passed = name_by (is_literal s.number) (the terminal.Name s) (short.spells_name src s) i.fits i.is; level = level_behind (spelled src) (terminal.Name ∷ []) s c d refl i }
 
   -- a name, and further ones behind commas, whatever stands before it
@@ -131,4 +131,4 @@ module _ (src : Bytes) where
 
 -- the tree of symbols that are spelled and within the limits
 pub derived_short : (src : Bytes) (t : ProgramTree) (w : Text) → Derives programs.programs t w → Within None w [] → list_all (spelled src) w ≡ true → short.short_tree src t ≡ true
-derived_short src t w (n, l) (d, k) h = program_sees src n t w [] l h start d k refl
+derived_short src t w (n, l) (d, k) h = program_sees src n t w [] l h None start d k refl

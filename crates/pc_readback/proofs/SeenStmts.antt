@@ -1,5 +1,5 @@
 -- What a text within the limits says of its statements: their expressions are short, and no more braces are open than may be.
-use Rattle.std.proofs.Common.{◌≡◌, ℕ, zero, suc, ◌+◌, ◌-◌, refl, ap, ◌∙◌, arith, List, [], ◌∷◌}
+use Rattle.std.proofs.Common.{◌≡◌, ℕ, zero, suc, ◌+◌, ◌-◌, refl, ap, ◌∙◌, arith, List, [], ◌∷◌, Bool}
 use Rattle.std.specs.Prelude.{◌&&◌, max}
 use Rattle.std.specs.List.{list_all}
 use Rattle.pc_text.specs.Bytes.{Bytes}
@@ -15,9 +15,10 @@ use Rattle.pc_grammar.specs.Rights as rights
 use Rattle.pc_grammar.specs.Statements as stmts
 use Rattle.pc_readback.specs.ShownTrees as short
 use Rattle.pc_program.proofs.Results.{and_of}
-use Rattle.pc_readback.proofs.ShortStmts.{short-set, short-if, short-while, short-assert, short-assume, nesting-set, nesting-if, nesting-while, nesting-assert, nesting-assume}
 use Rattle.pc_readback.proofs.Nesting.{Nests, MayNest, Closes, closing, flat_nests, renamed, moved, tested_too, two_blocks, block_nests}
-use Rattle.pc_readback.proofs.Seen.{IsOne, level_behind, Sees, one_sees, map_sees, both_sees, either_sees, maybe_sees, many_sees, dead_sees}
+use Rattle.pc_syntax.proofs.Phrases.{IsOne, Sees, one_sees, map_sees, both_sees, either_sees, maybe_sees, many_sees, dead_sees}
+use Rattle.pc_syntax.proofs.Trees.{at-set, at-if, at-while, at-assert, at-assume}
+use Rattle.pc_readback.proofs.Seen.{level_behind}
 use Rattle.pc_readback.proofs.SeenExprs.{spelled}
 use Rattle.pc_readback.proofs.SeenTests.{Holds, behind, closed, enclosed_sees, all_sees, test_sees, right_sees}
 
@@ -30,7 +31,7 @@ module _ (src : Bytes) (n : ℕ) where
   set_sees : Sees (spelled src) (stmts.is_set_stmt (grammar.is_paren n)) (λ t. Nests (short.short_stmt t) (short.nesting t))
   set_sees = map_sees (spelled src) stmts.set_of (is_both (is_one terminal.Name) (is_both (is_one terminal.Assign) (is_both (rights.is_right (grammar.is_paren n)) (is_one terminal.Semicolon))))
       (λ x. Holds (short.short_expr x.1.1.0.expr)) (λ t. Nests (short.short_stmt t) (short.nesting t))
-      (λ x c d i. flat_nests (short.short_expr x.1.1.0.expr) (short.short_stmt (stmts.set_of x)) (short.nesting (stmts.set_of x)) c d (short-set x.0 x.1.1.0) (nesting-set x.0 x.1.1.0) i)
+      (λ x c d i. flat_nests (short.short_expr x.1.1.0.expr) (short.short_stmt (stmts.set_of x)) (short.nesting (stmts.set_of x)) c d (at-set Bool short.short_step x.0 x.1.1.0) (at-set ℕ short.nesting_step x.0 x.1.1.0) i)
       (after_keyword terminal.Name (is_both (is_one terminal.Assign) (is_both (rights.is_right (grammar.is_paren n)) (is_one terminal.Semicolon))) (λ y. Holds (short.short_expr y.1.0.expr)) (λ x. Holds (short.short_expr x.1.1.0.expr))
       (λ x c e d i j. record { passed = j.passed; level = j.level ∙ level_behind (spelled src) (terminal.Name ∷ []) x.0 c e refl i })
       (behind src (terminal.Assign ∷ []) refl refl (is_both (rights.is_right (grammar.is_paren n)) (is_one terminal.Semicolon)) (λ y. short.short_expr y.0.expr)
@@ -48,14 +49,14 @@ module _ (src : Bytes) (n : ℕ) where
   assert_sees : Sees (spelled src) (stmts.is_assert_stmt (grammar.is_paren n)) (λ t. Nests (short.short_stmt t) (short.nesting t))
   assert_sees = map_sees (spelled src) stmts.assert_of (is_both (is_one terminal.Assert) (is_both (stmts.is_enclosed (stmts.is_all (grammar.is_paren n))) (is_one terminal.Semicolon)))
       (λ x. Holds (list_all short.short_compare x.1.0)) (λ t. Nests (short.short_stmt t) (short.nesting t))
-      (λ x c d i. flat_nests (list_all short.short_compare x.1.0) (short.short_stmt (stmts.assert_of x)) (short.nesting (stmts.assert_of x)) c d (short-assert x.0.place x.1.0) (nesting-assert x.0.place x.1.0) i)
-      (claim_sees terminal.Assert (λ s w v l h c d k. level_behind (spelled src) (terminal.Assert ∷ []) s c d refl (one_sees (spelled src) (terminal.Assert ∷ []) s w v l h c d k)))
+      (λ x c d i. flat_nests (list_all short.short_compare x.1.0) (short.short_stmt (stmts.assert_of x)) (short.nesting (stmts.assert_of x)) c d (at-assert Bool short.short_step x.0.place x.1.0) (at-assert ℕ short.nesting_step x.0.place x.1.0) i)
+      (claim_sees terminal.Assert (λ s w v l h most c d k. level_behind (spelled src) (terminal.Assert ∷ []) s c d refl (one_sees (spelled src) (terminal.Assert ∷ []) s w v l h most c d k)))
 
   assume_sees : Sees (spelled src) (stmts.is_assume_stmt (grammar.is_paren n)) (λ t. Nests (short.short_stmt t) (short.nesting t))
   assume_sees = map_sees (spelled src) stmts.assume_of (is_both (is_one terminal.Assume) (is_both (stmts.is_enclosed (stmts.is_all (grammar.is_paren n))) (is_one terminal.Semicolon)))
       (λ x. Holds (list_all short.short_compare x.1.0)) (λ t. Nests (short.short_stmt t) (short.nesting t))
-      (λ x c d i. flat_nests (list_all short.short_compare x.1.0) (short.short_stmt (stmts.assume_of x)) (short.nesting (stmts.assume_of x)) c d (short-assume x.0.place x.1.0) (nesting-assume x.0.place x.1.0) i)
-      (claim_sees terminal.Assume (λ s w v l h c d k. level_behind (spelled src) (terminal.Assume ∷ []) s c d refl (one_sees (spelled src) (terminal.Assume ∷ []) s w v l h c d k)))
+      (λ x c d i. flat_nests (list_all short.short_compare x.1.0) (short.short_stmt (stmts.assume_of x)) (short.nesting (stmts.assume_of x)) c d (at-assume Bool short.short_step x.0.place x.1.0) (at-assume ℕ short.nesting_step x.0.place x.1.0) i)
+      (claim_sees terminal.Assume (λ s w v l h most c d k. level_behind (spelled src) (terminal.Assume ∷ []) s c d refl (one_sees (spelled src) (terminal.Assume ∷ []) s w v l h most c d k)))
 
   tried_sees : Sees (spelled src) (stmts.is_tried (grammar.is_paren n)) (λ cs. Holds (list_all short.short_compare cs))
   tried_sees = map_sees (spelled src) stmts.optional (is_maybe (is_both (is_one terminal.Try) (stmts.is_enclosed (stmts.is_all (grammar.is_paren n))))) (λ o. Holds (list_all short.short_compare (stmts.optional o)))
@@ -88,7 +89,7 @@ module _ (src : Bytes) (n : ℕ) where
     if_sees : Sees (spelled src) (stmts.is_if_stmt (grammar.is_paren n) B) (λ t. Nests (short.short_stmt t) (short.nesting t))
     if_sees = map_sees (spelled src) stmts.if_of (is_both (is_one terminal.If) (is_both (stmts.is_enclosed (stmts.is_test (grammar.is_paren n))) (is_both B (stmts.is_after terminal.Else B))))
         (λ x. Nests (short.short_test x.1.0 && (short.short_stmts x.1.1.0 && short.short_stmts x.1.1.1)) (1 + max (short.nesting_of x.1.1.0) (short.nesting_of x.1.1.1))) (λ t. Nests (short.short_stmt t) (short.nesting t))
-        (λ x c d i. renamed _ (short.short_stmt (stmts.if_of x)) _ (short.nesting (stmts.if_of x)) c d (short-if x.0.place x.1.0 x.1.1.0 x.1.1.1) (nesting-if x.0.place x.1.0 x.1.1.0 x.1.1.1) i)
+        (λ x c d i. renamed _ (short.short_stmt (stmts.if_of x)) _ (short.nesting (stmts.if_of x)) c d (at-if Bool short.short_step x.0.place x.1.0 x.1.1.0 x.1.1.1) (at-if ℕ short.nesting_step x.0.place x.1.0 x.1.1.0 x.1.1.1) i)
         (after_keyword terminal.If (is_both (stmts.is_enclosed (stmts.is_test (grammar.is_paren n))) (is_both B (stmts.is_after terminal.Else B)))
         (λ y. Nests (short.short_test y.0 && (short.short_stmts y.1.0 && short.short_stmts y.1.1)) (1 + max (short.nesting_of y.1.0) (short.nesting_of y.1.1)))
         (λ x. Nests (short.short_test x.1.0 && (short.short_stmts x.1.1.0 && short.short_stmts x.1.1.1)) (1 + max (short.nesting_of x.1.1.0) (short.nesting_of x.1.1.1)))
@@ -104,7 +105,7 @@ module _ (src : Bytes) (n : ℕ) where
     while_sees : Sees (spelled src) (stmts.is_while_stmt (grammar.is_paren n) B) (λ t. Nests (short.short_stmt t) (short.nesting t))
     while_sees = map_sees (spelled src) stmts.while_of (is_both (is_one terminal.While) (is_both (stmts.is_enclosed (stmts.is_test (grammar.is_paren n))) (is_both (stmts.is_tried (grammar.is_paren n)) B)))
         (λ x. Nests (short.short_test x.1.0 && (list_all short.short_compare x.1.1.0 && short.short_stmts x.1.1.1)) (1 + short.nesting_of x.1.1.1)) (λ t. Nests (short.short_stmt t) (short.nesting t))
-        (λ x c d i. renamed _ (short.short_stmt (stmts.while_of x)) _ (short.nesting (stmts.while_of x)) c d (short-while x.0.place x.1.0 x.1.1.0 x.1.1.1) (nesting-while x.0.place x.1.0 x.1.1.0 x.1.1.1) i)
+        (λ x c d i. renamed _ (short.short_stmt (stmts.while_of x)) _ (short.nesting (stmts.while_of x)) c d (at-while Bool short.short_step x.0.place x.1.0 x.1.1.0 x.1.1.1) (at-while ℕ short.nesting_step x.0.place x.1.0 x.1.1.0 x.1.1.1) i)
         (after_keyword terminal.While (is_both (stmts.is_enclosed (stmts.is_test (grammar.is_paren n))) (is_both (stmts.is_tried (grammar.is_paren n)) B))
         (λ y. Nests (short.short_test y.0 && (list_all short.short_compare y.1.0 && short.short_stmts y.1.1)) (1 + short.nesting_of y.1.1))
         (λ x. Nests (short.short_test x.1.0 && (list_all short.short_compare x.1.1.0 && short.short_stmts x.1.1.1)) (1 + short.nesting_of x.1.1.1))

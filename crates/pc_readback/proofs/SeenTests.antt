@@ -22,8 +22,10 @@ use Rattle.pc_show.specs.declared.showing.level.Level.TheVariants as level
 use Rattle.pc_readback.specs.ShownTrees as short
 use Rattle.pc_program.proofs.Results.{and_of}
 use Rattle.pc_readback.proofs.SignBounds.{signs-num}
-use Rattle.pc_readback.proofs.Seen.{braces, IsOne, clear_behind, level_behind, Sees, one_sees, map_sees, both_sees, either_sees, maybe_sees, many_sees}
-use Rattle.pc_readback.proofs.SeenExprs.{spelled, Passes, literal-num, expr_sees}
+use Rattle.pc_syntax.proofs.Phrases.{IsOne, Sees, one_sees, map_sees, both_sees, either_sees, maybe_sees, many_sees}
+use Rattle.pc_syntax.proofs.Trees.{at-num}
+use Rattle.pc_readback.proofs.Seen.{braces, clear_behind, level_behind}
+use Rattle.pc_readback.proofs.SeenExprs.{spelled, Passes, expr_sees}
 
 -- a test of a phrase is passed, and the braces are as before
 pub record Holds (b : Bool) (c d : Counts) : Type 0 where
@@ -86,7 +88,7 @@ module _ (src : Bytes) where
   -- ---- right sides
 
   level_one : (ks : List Terminal) → apart ks braces ≡ true → Sees (spelled src) (is_one_of ks) Level
-  level_one ks b s w v l h c d k = level_behind (spelled src) ks s c d b (one_sees (spelled src) ks s w v l h c d k)
+  level_one ks b s w v l h most c d k = level_behind (spelled src) ks s c d b (one_sees (spelled src) ks s w v l h most c d k)
 
   level_both : {A B : Type 0} (L : Lang A) (M : Lang B) → Sees (spelled src) L Level → Sees (spelled src) M Level → Sees (spelled src) (is_both L M) Level
   level_both L M l m = both_sees (spelled src) L M Level Level Level (λ x c e d i j. j ∙ i) l m
@@ -109,7 +111,7 @@ module _ (src : Bytes) where
 
   -- the expression of a choice alone
   zero_is_short : short.short_expr (expr_is.Num (pos 0)) ≡ true
-  zero_is_short = and_of (short.has_literals (expr_is.Num (pos 0))) (nat_le (short.signs (expr_is.Num (pos 0)) level.Expression) SIGNS) (literal-num (pos 0)) (ap (λ (n : ℕ). nat_le n SIGNS) (signs-num (pos 0) level.Expression))
+  zero_is_short = and_of (short.has_literals (expr_is.Num (pos 0))) (nat_le (short.signs (expr_is.Num (pos 0)) level.Expression) SIGNS) (at-num Bool short.literal_step (pos 0)) (ap (λ (n : ℕ). nat_le n SIGNS) (signs-num (pos 0) level.Expression))
 
   right_is : (x : ExprTree × Option (Symbol × Choice)) → short.short_expr (rights.right_of x).expr ≡ short.short_expr x.0
   right_is (x, None) = refl
