@@ -64,18 +64,14 @@ module _ (src : Bytes) where
   module _ (P : Lang ExprTree) (p : Sees (spelled src) P Literal) where
     atom_literal : Sees (spelled src) (grammar.is_atom P) Literal
     unfolding Literal
-    atom_literal = either_sees (spelled src) (is_map grammar.number (is_one terminal.Number)) (is_either (is_map grammar.name (is_one terminal.Name)) P) Literal
-        (map_sees (spelled src) grammar.number (is_one terminal.Number) (IsOne (spelled src) (terminal.Number ∷ [])) Literal
-        (λ s c d i. at-num Bool short.literal_step s.number ∙ (and_is (is_literal s.number) (not (the terminal.Name s) || short.spells_name src s) i.fits).0) (one_sees (spelled src) (terminal.Number ∷ [])))
-        (either_sees (spelled src) (is_map grammar.name (is_one terminal.Name)) P Literal
-        (map_sees (spelled src) grammar.name (is_one terminal.Name) (IsOne (spelled src) (terminal.Name ∷ [])) Literal (λ s c d i. at-name Bool short.literal_step s) (one_sees (spelled src) (terminal.Name ∷ []))) p)
+    atom_literal = either_sees (spelled src) _ _ Literal (map_sees (spelled src) grammar.number _ (IsOne (spelled src) (terminal.Number ∷ [])) Literal
+        (λ s c d i. at-num Bool short.literal_step s.number ∙ (and_is (is_literal s.number) (not (the terminal.Name s) || short.spells_name src s) i.fits).0) (one_sees (spelled src) (terminal.Number ∷ []))) (either_sees (spelled src) _ P Literal
+        (map_sees (spelled src) grammar.name _ (IsOne (spelled src) (terminal.Name ∷ [])) Literal (λ s c d i. at-name Bool short.literal_step s) (one_sees (spelled src) (terminal.Name ∷ []))) p)
 
     factor_literal : Sees (spelled src) (grammar.is_factor P) Literal
     unfolding Literal
-    factor_literal = map_sees (spelled src) grammar.signed (is_both (is_maybe (is_one terminal.Minus)) (grammar.is_atom P)) (λ x c d. short.has_literals x.1 ≡ true) Literal
-        signed
-        (both_sees (spelled src) (is_maybe (is_one terminal.Minus)) (grammar.is_atom P) (λ o c d. Unit {0}) Literal (λ x c d. short.has_literals x.1 ≡ true) (λ x c e d i j. j)
-        (maybe_sees (spelled src) (is_one terminal.Minus) (IsOne (spelled src) (terminal.Minus ∷ [])) (λ o c d. Unit {0}) (λ c. tt) (λ s c d i. tt) (one_sees (spelled src) (terminal.Minus ∷ []))) atom_literal)
+    factor_literal = map_sees (spelled src) grammar.signed _ (λ x c d. short.has_literals x.1 ≡ true) Literal signed (both_sees (spelled src) _ _ (λ o c d. Unit {0}) Literal (λ x c d. short.has_literals x.1 ≡ true) (λ x c e d i j. j)
+        (maybe_sees (spelled src) _ (IsOne (spelled src) (terminal.Minus ∷ [])) (λ o c d. Unit {0}) (λ c. tt) (λ s c d i. tt) (one_sees (spelled src) (terminal.Minus ∷ []))) atom_literal)
       where
         signed : (x : Option Symbol × ExprTree) (c d : Counts) → short.has_literals x.1 ≡ true → short.has_literals (grammar.signed x) ≡ true
         signed (None, x) c d h = h
@@ -84,32 +80,27 @@ module _ (src : Bytes) where
     -- what stands behind a sign, as often as it does
     signed_literals : (ks : List Terminal) (L : Lang ExprTree) → Sees (spelled src) L Literal → Sees (spelled src) (is_many (is_both (is_one_of ks) L)) Literals
     unfolding Literal Literals
-    signed_literals ks L l = many_sees (spelled src) (is_both (is_one_of ks) L) (λ y c d. short.has_literals y.1 ≡ true) Literals (λ c. refl)
-        (λ y ys c e d i j. and_of (short.has_literals y.1) (list_all (λ y. short.has_literals y.1) ys) i j)
-        (both_sees (spelled src) (is_one_of ks) L (IsOne (spelled src) ks) Literal (λ y c d. short.has_literals y.1 ≡ true) (λ y c e d i j. j) (one_sees (spelled src) ks) l)
+    signed_literals ks L l = many_sees (spelled src) _ (λ y c d. short.has_literals y.1 ≡ true) Literals (λ c. refl) (λ y ys c e d i j. and_of (short.has_literals y.1) (list_all (λ y. short.has_literals y.1) ys) i j)
+        (both_sees (spelled src) _ L (IsOne (spelled src) ks) Literal (λ y c d. short.has_literals y.1 ≡ true) (λ y c e d i j. j) (one_sees (spelled src) ks) l)
 
     addend_literal : Sees (spelled src) (grammar.is_addend P) Literal
     unfolding Literal Literals
-    addend_literal = map_sees (spelled src) grammar.all_products (is_both (grammar.is_factor P) (is_many (grammar.is_star_factor P)))
-        (λ x c d. (short.has_literals x.0 ≡ true) × (list_all (λ y. short.has_literals y.1) x.1 ≡ true)) Literal (λ x c d i. products_literal x.0 x.1 i.0 i.1)
-        (both_sees (spelled src) (grammar.is_factor P) (is_many (grammar.is_star_factor P)) Literal Literals (λ x c d. (short.has_literals x.0 ≡ true) × (list_all (λ y. short.has_literals y.1) x.1 ≡ true))
+    addend_literal = map_sees (spelled src) grammar.all_products _ (λ x c d. (short.has_literals x.0 ≡ true) × (list_all (λ y. short.has_literals y.1) x.1 ≡ true)) Literal (λ x c d i. products_literal x.0 x.1 i.0 i.1)
+        (both_sees (spelled src) _ _ Literal Literals (λ x c d. (short.has_literals x.0 ≡ true) × (list_all (λ y. short.has_literals y.1) x.1 ≡ true))
         (λ x c e d i j. (i, j)) factor_literal (signed_literals (terminal.Star ∷ []) (grammar.is_factor P) factor_literal))
 
     expr_literal : Sees (spelled src) (grammar.is_expr_in P) Literal
     unfolding Literal Literals
-    expr_literal = map_sees (spelled src) grammar.all_sums (is_both (grammar.is_addend P) (is_many (grammar.is_sign_addend P)))
-        (λ x c d. (short.has_literals x.0 ≡ true) × (list_all (λ y. short.has_literals y.1) x.1 ≡ true)) Literal (λ x c d i. sums_literal x.0 x.1 i.0 i.1)
-        (both_sees (spelled src) (grammar.is_addend P) (is_many (grammar.is_sign_addend P)) Literal Literals (λ x c d. (short.has_literals x.0 ≡ true) × (list_all (λ y. short.has_literals y.1) x.1 ≡ true))
+    expr_literal = map_sees (spelled src) grammar.all_sums _ (λ x c d. (short.has_literals x.0 ≡ true) × (list_all (λ y. short.has_literals y.1) x.1 ≡ true)) Literal (λ x c d i. sums_literal x.0 x.1 i.0 i.1)
+        (both_sees (spelled src) _ _ Literal Literals (λ x c d. (short.has_literals x.0 ≡ true) × (list_all (λ y. short.has_literals y.1) x.1 ≡ true))
         (λ x c e d i j. (i, j)) addend_literal (signed_literals grammar.signs (grammar.is_addend P) addend_literal))
 
   paren_literal : (n : ℕ) → Sees (spelled src) (grammar.is_paren n) Literal
   unfolding Literal
   paren_literal zero = dead_sees (spelled src) Literal
-  paren_literal (suc n) = map_sees (spelled src) grammar.inner (is_both (is_one terminal.OpenParen) (is_both (grammar.is_expr_in (grammar.is_paren n)) (is_one terminal.CloseParen)))
-      (λ x c d. short.has_literals x.1.0 ≡ true) Literal (λ x c d h. h)
-      (both_sees (spelled src) (is_one terminal.OpenParen) (is_both (grammar.is_expr_in (grammar.is_paren n)) (is_one terminal.CloseParen)) (IsOne (spelled src) (terminal.OpenParen ∷ []))
+  paren_literal (suc n) = map_sees (spelled src) grammar.inner _ (λ x c d. short.has_literals x.1.0 ≡ true) Literal (λ x c d h. h) (both_sees (spelled src) _ _ (IsOne (spelled src) (terminal.OpenParen ∷ []))
       (λ x c d. short.has_literals x.0 ≡ true) (λ x c d. short.has_literals x.1.0 ≡ true) (λ x c e d i j. j) (one_sees (spelled src) (terminal.OpenParen ∷ []))
-      (both_sees (spelled src) (grammar.is_expr_in (grammar.is_paren n)) (is_one terminal.CloseParen) Literal (IsOne (spelled src) (terminal.CloseParen ∷ [])) (λ x c d. short.has_literals x.0 ≡ true)
+      (both_sees (spelled src) _ _ Literal (IsOne (spelled src) (terminal.CloseParen ∷ [])) (λ x c d. short.has_literals x.0 ≡ true)
       (λ x c e d i j. i) (expr_literal (grammar.is_paren n) (paren_literal n)) (one_sees (spelled src) (terminal.CloseParen ∷ []))))
 
   -- ---- expressions
