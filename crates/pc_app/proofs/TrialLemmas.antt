@@ -11,7 +11,7 @@ use Rattle.pc_condition.specs.Conditions.{condition_text}
 use Rattle.pc_gen.specs.Made.{IsLoops, made}
 use Rattle.pc_gen.specs.Summary.{summary_text}
 use Rattle.pc_gen.specs.declared.summary.Summary.{Summary}
-use Rattle.pc_made.proofs.Spelled.{made_spells}
+use Rattle.pc_readback.proofs.MadeSpelled.{made_spells}
 use Rattle.pc_app.specs.Inferred.{Inferred}
 use Rattle.pc_app.specs.Trials.{IsSize, IsTrial}
 

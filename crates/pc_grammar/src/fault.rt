@@ -7,10 +7,10 @@ pub enum ParseFault {
     /// The first symbol such that the symbols up to and with it begin no program; or the end of
     /// the text, where all symbols begin a program but are none.
     Syntax(Place),
-    /// A `{` where [`BRACES`](crate::BRACES) are open.
+    /// A `{` where [`BRACES`](pc_language::BRACES) are open.
     TooDeep(Place),
-    /// A sign of an expression that has [`SIGNS`](crate::SIGNS) already, or the `&&` before a
-    /// comparison of a conjunction that has [`COMPARISONS`](crate::COMPARISONS).
+    /// A sign of an expression that has [`SIGNS`](pc_language::SIGNS) already, or the `&&` before a
+    /// comparison of a conjunction that has [`COMPARISONS`](pc_language::COMPARISONS).
     TooLong(Place),
     /// The `{` of a process behind [`PROCESSES`](crate::PROCESSES) others. No program has this fault.
     TooManyProcesses(Place),

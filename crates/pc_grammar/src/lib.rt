@@ -25,7 +25,6 @@ pub use fault::ParseFault;
 pub use laws::{grammar_is_unambiguous, symbols_have_one_answer};
 pub use limits::PROCESSES;
 pub use parsing::{parse, parse_parallel};
-pub use pc_language::{BRACES, Bound, COMPARISONS, Choice, Op, SIGNS, Terminal};
 pub use symbol::Symbol;
 pub use terminals::symbols;
 pub use tree::{CompareTree, ExprTree, ParallelTree, ProgramTree, RightTree, StmtTree, TestTree};

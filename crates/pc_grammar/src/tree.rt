@@ -34,7 +34,7 @@ pub struct CompareTree {
 pub enum TestTree {
     /// `*`, which may hold or not.
     Any,
-    /// A conjunction of one to [`COMPARISONS`](crate::COMPARISONS) comparisons, in order.
+    /// A conjunction of one to [`COMPARISONS`](pc_language::COMPARISONS) comparisons, in order.
     All(Items<CompareTree>),
 }
 

@@ -185,11 +185,7 @@ module _ (names : List Bytes) (each : list_all is_name names ≡ true) where
 
   op_mark : (o : Op) → is_mark (sign_of o) ≡ true
   op_mark op.Less = refl
-  op_mark op.AtMost = refl
-  op_mark op.Greater = refl
-  op_mark op.AtLeast = refl
-  op_mark op.Equal = refl
-  op_mark op.Unequal = refl
+  op_mark o = refl
 
   nice_compare : (c : Compare) → shown.shown_compare names c ≡ true → sane.sane_compare (length names) c ≡ true → IsNice (compare_pieces names c)
   nice_compare c h g =

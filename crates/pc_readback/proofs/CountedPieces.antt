@@ -25,6 +25,9 @@ pub record Step (c : Counts) (s : Symbol) (r : Text) (Q : Counts → Type 0) : T
   pub runs : counted None c s r ≡ Ok after
   pub holds : Q after
 
+pub steps : (c : Counts) (s : Symbol) (r : Text) (Q : Counts → Type 0) (d : Counts) → counted None c s r ≡ Ok d → Q d → Step c s r Q
+steps c s r Q d runs holds = record { after = d; runs = runs; holds = holds }
+
 pub passes_both : (c : Counts) (u w v : Text) (Q R : Counts → Type 0) → Passes c u (w ++ v) Q → ((d : Counts) → Q d → Passes d w v R) → Passes c (u ++ w) v R
 passes_both c u w v Q R x f = let y = f x.after x.holds in record { after = y.after; runs = counts_append None c u w v ∙ ap (λ o. and_on o (λ d. counts None d w v)) x.runs ∙ y.runs; holds = y.holds }
 

@@ -32,19 +32,11 @@ use Rattle.pc_readback.proofs.CountedMarks.{Braces, Resets, reset, one_and, any_
 
 operator_resets : (o : Op) → Resets (sign_of o)
 operator_resets op.Less c s r e = rw e refl
-operator_resets op.AtMost c s r e = rw e refl
-operator_resets op.Greater c s r e = rw e refl
-operator_resets op.AtLeast c s r e = rw e refl
-operator_resets op.Equal c s r e = rw e refl
-operator_resets op.Unequal c s r e = rw e refl
+operator_resets o c s r e = rw e refl
 
 operator_apart : (o : Op) → has (terminal.OpenBracket ∷ []) (sign_of o) ≡ false
 operator_apart op.Less = refl
-operator_apart op.AtMost = refl
-operator_apart op.Greater = refl
-operator_apart op.AtLeast = refl
-operator_apart op.Equal = refl
-operator_apart op.Unequal = refl
+operator_apart o = refl
 
 module _ (src : Bytes) (names : List Bytes) (b : ℕ) where
   compare_counted : (n : ℕ) (c : Compare) → shown_compare names c ≡ true → Count src (compare_pieces names c) (Within b n 0) (Here b n) NoChoice

@@ -55,19 +55,15 @@ numbered names distinct v h = distinct v (name_at names v) (slice_get-get_or nam
 
 module _ (src : Bytes) (P : Lang ExprTree) where
   number_derives : (z : ℤ) (Q : ExprTree → Type 0) → Q (tree.Num z) → Derive src (Number z ∷ []) (grammar.is_atom P) Q
-  number_derives z Q q = derive_left src (is_map grammar.number (is_one terminal.Number)) (is_either (is_map grammar.name (is_one terminal.Name)) P) Q (Number z ∷ [])
-      (derive_map src grammar.number (is_one terminal.Number) (λ s. s.number ≡ z) Q (Number z ∷ []) (λ s h. subst (λ z. Q (tree.Num z)) (sym h) q) (derive_number src z))
+  number_derives z Q q = derive_left src _ _ Q (Number z ∷ []) (derive_map src grammar.number _ (λ s. s.number ≡ z) Q (Number z ∷ []) (λ s h. subst (λ z. Q (tree.Num z)) (sym h) q) (derive_number src z))
 
   name_derives : (w : Bytes) (Q : ExprTree → Type 0) → ((s : Symbol) → word src s ≡ w → Q (tree.Name s)) → Derive src (Name w ∷ []) (grammar.is_atom P) Q
-  name_derives w Q q = derive_right src (is_map grammar.number (is_one terminal.Number)) (is_either (is_map grammar.name (is_one terminal.Name)) P) Q (Name w ∷ [])
-      (derive_left src (is_map grammar.name (is_one terminal.Name)) P Q (Name w ∷ [])
-      (derive_map src grammar.name (is_one terminal.Name) (λ s. word src s ≡ w) Q (Name w ∷ []) q (derive_name src w)))
+  name_derives w Q q = derive_right src _ _ Q (Name w ∷ []) (derive_left src _ P Q (Name w ∷ []) (derive_map src grammar.name _ (λ s. word src s ≡ w) Q (Name w ∷ []) q (derive_name src w)))
 
   negation_derives : (ps : List Piece) (X Q : ExprTree → Type 0) → ((s : Symbol) (x : ExprTree) → X x → Q (tree.Neg x s.place)) →
       Derive src ps (grammar.is_atom P) X → Derive src (Mark terminal.Minus ∷ ps) (grammar.is_factor P) Q
-  negation_derives ps X Q f d = derive_map src grammar.signed _ _ Q (Mark terminal.Minus ∷ ps) (λ x h. by x.0 x.1 h.0 h.1)
-      (derive_both src (is_maybe (is_one terminal.Minus)) (grammar.is_atom P) (Given src (λ s. s.terminal ≡ terminal.Minus)) X (Mark terminal.Minus ∷ []) ps
-      (derive_some src (is_one terminal.Minus) _ (Mark terminal.Minus ∷ []) (derive_one src terminal.Minus refl)) d)
+  negation_derives ps X Q f d = derive_map src grammar.signed _ _ Q (Mark terminal.Minus ∷ ps) (λ x h. by x.0 x.1 h.0 h.1) (derive_both src _ _ (Given src (λ s. s.terminal ≡ terminal.Minus)) X (Mark terminal.Minus ∷ []) ps
+      (derive_some src _ _ (Mark terminal.Minus ∷ []) (derive_one src terminal.Minus refl)) d)
     where
       by : (o : Option Symbol) (x : ExprTree) → Given src (λ s. s.terminal ≡ terminal.Minus) o → X x → Q (grammar.signed (o, x))
       by None x h k = absurd h

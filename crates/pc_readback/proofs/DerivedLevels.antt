@@ -83,8 +83,7 @@ module _ (src : Bytes) (Q : ExprTree → Type 0) (ps : List Piece) where
   Enclosed = Mark terminal.OpenParen ∷ ps ++ Mark terminal.CloseParen ∷ []
 
   in_parens : (n : ℕ) → Derive src ps (is_expr_in (is_paren n)) Q → Derive src Enclosed (is_atom (is_paren (suc n))) Q
-  in_parens n d = derive_right src _ _ Q Enclosed (derive_right src _ _ Q Enclosed
-      (derive_between src terminal.OpenParen terminal.CloseParen (is_expr_in (is_paren n)) _ _ Q (Mark terminal.OpenParen ∷ []) ps (Mark terminal.CloseParen ∷ [])
+  in_parens n d = derive_right src _ _ Q Enclosed (derive_right src _ _ Q Enclosed (derive_between src terminal.OpenParen terminal.CloseParen (is_expr_in (is_paren n)) _ _ Q (Mark terminal.OpenParen ∷ []) ps (Mark terminal.CloseParen ∷ [])
       (derive_one src terminal.OpenParen refl) d (derive_one src terminal.CloseParen refl)))
 
   enclosed_at : At level.Expression → Derivable src Enclosed (at_level level.Atom) Q

@@ -73,18 +73,18 @@ module _ (src : Bytes) (names : Named) (body : List Stmt) where
   program_derives : (n : ℕ) → Derive src (stmts_pieces names.names body 2) (is_stmts n) (AreStmts src names.names (bare body) (sum (map edges body))) →
       Derive src (program_pieces names body) (grammar.is_program n) (Parts src names body)
   program_derives n d =
-      let behind = derive_both src (is_stmts n) (is_one terminal.CloseBrace) (AreStmts src names.names (bare body) (sum (map edges body))) _ (stmts_pieces names.names body 2) (Mark terminal.CloseBrace ∷ LineEnd ∷ []) d (derive_one src terminal.CloseBrace refl) in
-      let inside = derive_both src grammar.is_locals (is_both (is_stmts n) (is_one terminal.CloseBrace)) (AreNames src (drop names.params names.names)) _ vs (stmts_pieces names.names body 2 ++ Mark terminal.CloseBrace ∷ LineEnd ∷ [])
+      let behind = derive_both src _ _ (AreStmts src names.names (bare body) (sum (map edges body))) _ (stmts_pieces names.names body 2) (Mark terminal.CloseBrace ∷ LineEnd ∷ []) d (derive_one src terminal.CloseBrace refl) in
+      let inside = derive_both src grammar.is_locals _ (AreNames src (drop names.params names.names)) _ vs (stmts_pieces names.names body 2 ++ Mark terminal.CloseBrace ∷ LineEnd ∷ [])
       (locals_derive src (drop names.params names.names)) behind in
-      let braces = derive_both src (is_one terminal.OpenBrace) (is_both grammar.is_locals (is_both (is_stmts n) (is_one terminal.CloseBrace))) _ _ (Blank 1 ∷ Mark terminal.OpenBrace ∷ LineEnd ∷ [])
+      let braces = derive_both src _ _ _ _ (Blank 1 ∷ Mark terminal.OpenBrace ∷ LineEnd ∷ [])
       (vs ++ (stmts_pieces names.names body 2 ++ Mark terminal.CloseBrace ∷ LineEnd ∷ [])) (derive_one src terminal.OpenBrace refl) inside in
       let params = derive_between src terminal.OpenParen terminal.CloseParen (is_map grammar.given (is_maybe grammar.is_names)) _ _ (AreNames src (take names.params names.names)) (Mark terminal.OpenParen ∷ []) us (Mark terminal.CloseParen ∷ [])
       (derive_one src terminal.OpenParen refl) (params_derive src (take names.params names.names)) (derive_one src terminal.CloseParen refl) in
       derive_map src grammar.program_of (is_both (is_one terminal.Entry) (is_both grammar.is_params (is_both (is_one terminal.OpenBrace) (is_both grammar.is_locals (is_both (is_stmts n) (is_one terminal.CloseBrace)))))) _ (Parts src names body) (program_pieces names body)
       (λ x h. record { params = h.1.0; locals = h.1.1.1.0; stmts = h.1.1.1.1.0 })
-      (derive_both src (is_one terminal.Entry) (is_both grammar.is_params (is_both (is_one terminal.OpenBrace) (is_both grammar.is_locals (is_both (is_stmts n) (is_one terminal.CloseBrace))))) _ _ (Mark terminal.Entry ∷ Blank 1 ∷ [])
+      (derive_both src _ _ _ _ (Mark terminal.Entry ∷ Blank 1 ∷ [])
       ((Mark terminal.OpenParen ∷ us ++ Mark terminal.CloseParen ∷ []) ++ (Blank 1 ∷ Mark terminal.OpenBrace ∷ LineEnd ∷ vs ++ (stmts_pieces names.names body 2 ++ Mark terminal.CloseBrace ∷ LineEnd ∷ []))) (derive_one src terminal.Entry refl)
-      (derive_both src grammar.is_params (is_both (is_one terminal.OpenBrace) (is_both grammar.is_locals (is_both (is_stmts n) (is_one terminal.CloseBrace)))) (AreNames src (take names.params names.names)) _
+      (derive_both src grammar.is_params _ (AreNames src (take names.params names.names)) _
       (Mark terminal.OpenParen ∷ us ++ Mark terminal.CloseParen ∷ []) (Blank 1 ∷ Mark terminal.OpenBrace ∷ LineEnd ∷ vs ++ (stmts_pieces names.names body 2 ++ Mark terminal.CloseBrace ∷ LineEnd ∷ [])) params braces))
 
 -- the symbols of the pieces of a program derive a tree, of which the walk makes this program apart from places

@@ -50,36 +50,34 @@ choice_stands c x h (lo, hi) = let ordered : in_order (end_of x.lo) (end_of x.hi
 
 module _ (src : Bytes) where
   number_derives : (z : ℤ) → Derive src (bound_pieces (end.At z)) grammar.is_closed_bound (λ x. x ≡ end.At z)
-  number_derives (pos n) = derive_map src grammar.bound_of (is_both (is_maybe (is_one terminal.Minus)) (is_one terminal.Number)) _ _ (Number (pos n) ∷ []) (λ x h. by x.0 x.1 h.0 h.1)
-      (derive_both src (is_maybe (is_one terminal.Minus)) (is_one terminal.Number) _ _ [] (Number (pos n) ∷ []) (derive_none src (is_one terminal.Minus)) (derive_number src (pos n)))
+  number_derives (pos n) = derive_map src grammar.bound_of _ _ _ (Number (pos n) ∷ []) (λ x h. by x.0 x.1 h.0 h.1) (derive_both src _ _ _ _ [] (Number (pos n) ∷ []) (derive_none src (is_one terminal.Minus)) (derive_number src (pos n)))
     where
       by : (o : Option Symbol) (s : Symbol) → o ≡ None → s.number ≡ pos n → grammar.bound_of (o, s) ≡ end.At (pos n)
       by o s h k = rw h (ap end.At k)
-  number_derives (negsuc n) = derive_map src grammar.bound_of (is_both (is_maybe (is_one terminal.Minus)) (is_one terminal.Number)) _ _ (Mark terminal.Minus ∷ Number (pos (suc n)) ∷ []) (λ x h. by x.0 x.1 h.0 h.1)
-      (derive_both src (is_maybe (is_one terminal.Minus)) (is_one terminal.Number) (Given src (λ s. s.terminal ≡ terminal.Minus)) _ (Mark terminal.Minus ∷ []) (Number (pos (suc n)) ∷ [])
-      (derive_some src (is_one terminal.Minus) _ (Mark terminal.Minus ∷ []) (derive_one src terminal.Minus refl)) (derive_number src (pos (suc n))))
+  number_derives (negsuc n) = derive_map src grammar.bound_of _ _ _ (Mark terminal.Minus ∷ Number (pos (suc n)) ∷ []) (λ x h. by x.0 x.1 h.0 h.1)
+      (derive_both src _ _ (Given src (λ s. s.terminal ≡ terminal.Minus)) _ (Mark terminal.Minus ∷ []) (Number (pos (suc n)) ∷ [])
+      (derive_some src _ _ (Mark terminal.Minus ∷ []) (derive_one src terminal.Minus refl)) (derive_number src (pos (suc n))))
     where
       by : (o : Option Symbol) (s : Symbol) → Given src (λ s. s.terminal ≡ terminal.Minus) o → s.number ≡ pos (suc n) → grammar.bound_of (o, s) ≡ end.At (negsuc n)
       by None s h k = absurd h
       by (Some m) s h k = ap (λ z. end.At (grammar.opposite z)) k
 
   bound_derives : (b : Bound) → Derive src (bound_pieces b) grammar.is_bound (λ x. x ≡ b)
-  bound_derives (end.At z) = derive_right src (is_map grammar.open_bound (is_one terminal.Star)) grammar.is_closed_bound (λ x. x ≡ end.At z) (bound_pieces (end.At z)) (number_derives z)
-  bound_derives end.Open = derive_left src (is_map grammar.open_bound (is_one terminal.Star)) grammar.is_closed_bound (λ x. x ≡ end.Open) (bound_pieces end.Open)
-      (derive_map src grammar.open_bound (is_one terminal.Star) _ (λ x. x ≡ end.Open) (Mark terminal.Star ∷ []) (λ s h. refl) (derive_one src terminal.Star refl))
+  bound_derives (end.At z) = derive_right src _ grammar.is_closed_bound (λ x. x ≡ end.At z) (bound_pieces (end.At z)) (number_derives z)
+  bound_derives end.Open = derive_left src _ grammar.is_closed_bound (λ x. x ≡ end.Open) (bound_pieces end.Open) (derive_map src grammar.open_bound _ _ (λ x. x ≡ end.Open) (Mark terminal.Star ∷ []) (λ s h. refl) (derive_one src terminal.Star refl))
 
   choice_derives : (c : Choice) →
       Derive src (Mark terminal.OpenBracket ∷ bound_pieces c.lo ++ (Mark terminal.Comma ∷ Blank 1 ∷ bound_pieces c.hi ++ Mark terminal.CloseBracket ∷ [])) grammar.is_choice (HasEnds c)
   choice_derives c =
-      let high = derive_both src grammar.is_bound (is_one terminal.CloseBracket) _ _ (bound_pieces c.hi) (Mark terminal.CloseBracket ∷ []) (bound_derives c.hi) (derive_one src terminal.CloseBracket refl) in
-      let comma = derive_both src (is_one terminal.Comma) (is_both grammar.is_bound (is_one terminal.CloseBracket)) _ _ (Mark terminal.Comma ∷ Blank 1 ∷ []) (bound_pieces c.hi ++ Mark terminal.CloseBracket ∷ [])
+      let high = derive_both src grammar.is_bound _ _ _ (bound_pieces c.hi) (Mark terminal.CloseBracket ∷ []) (bound_derives c.hi) (derive_one src terminal.CloseBracket refl) in
+      let comma = derive_both src _ _ _ _ (Mark terminal.Comma ∷ Blank 1 ∷ []) (bound_pieces c.hi ++ Mark terminal.CloseBracket ∷ [])
       (derive_one src terminal.Comma refl) high in
-      let low = derive_both src grammar.is_bound (is_both (is_one terminal.Comma) (is_both grammar.is_bound (is_one terminal.CloseBracket))) _ _
+      let low = derive_both src grammar.is_bound _ _ _
       (bound_pieces c.lo) (Mark terminal.Comma ∷ Blank 1 ∷ bound_pieces c.hi ++ Mark terminal.CloseBracket ∷ []) (bound_derives c.lo) comma in
       derive_map src grammar.choice_of (is_both (is_one terminal.OpenBracket) (is_both grammar.is_bound (is_both (is_one terminal.Comma) (is_both grammar.is_bound (is_one terminal.CloseBracket))))) _ (HasEnds c)
       (Mark terminal.OpenBracket ∷ bound_pieces c.lo ++ (Mark terminal.Comma ∷ Blank 1 ∷ bound_pieces c.hi ++ Mark terminal.CloseBracket ∷ []))
       (λ x h. (h.1.0, h.1.1.1.0))
-      (derive_both src (is_one terminal.OpenBracket) (is_both grammar.is_bound (is_both (is_one terminal.Comma) (is_both grammar.is_bound (is_one terminal.CloseBracket)))) _ _ (Mark terminal.OpenBracket ∷ [])
+      (derive_both src _ _ _ _ (Mark terminal.OpenBracket ∷ [])
       (bound_pieces c.lo ++ (Mark terminal.Comma ∷ Blank 1 ∷ bound_pieces c.hi ++ Mark terminal.CloseBracket ∷ [])) (derive_one src terminal.OpenBracket refl) low)
 
 -- ---- right sides
@@ -100,10 +98,8 @@ module _ (src : Bytes) (names : List Bytes) where
 
   tail_derives : (o : Option Choice) → Derive src (choice_pieces o) is_tail (IsTail o)
   tail_derives None = derive_none src (is_both (is_one terminal.Plus) grammar.is_choice)
-  tail_derives (Some c) = derive_some src (is_both (is_one terminal.Plus) grammar.is_choice) _ (choice_pieces (Some c))
-      (derive_both src (is_one terminal.Plus) grammar.is_choice _ (HasEnds c) (spaced terminal.Plus)
-      (Mark terminal.OpenBracket ∷ bound_pieces c.lo ++ (Mark terminal.Comma ∷ Blank 1 ∷ bound_pieces c.hi ++ Mark terminal.CloseBracket ∷ []))
-      (derive_one src terminal.Plus refl) (choice_derives src c))
+  tail_derives (Some c) = derive_some src _ _ (choice_pieces (Some c)) (derive_both src _ grammar.is_choice _ (HasEnds c) (spaced terminal.Plus)
+      (Mark terminal.OpenBracket ∷ bound_pieces c.lo ++ (Mark terminal.Comma ∷ Blank 1 ∷ bound_pieces c.hi ++ Mark terminal.CloseBracket ∷ [])) (derive_one src terminal.Plus refl) (choice_derives src c))
 
   right_again : (r : Right) (x : ExprTree) (o : Option (Symbol × Choice)) → sane_choice r.choice ≡ true → IsExpr src names (bare_expr r.expr) (form r.expr) x → IsTail r.choice o →
       IsRight r (grammar.right_of (x, o))
@@ -121,9 +117,8 @@ module _ (src : Bytes) (names : List Bytes) where
 
   right_derives : (n : ℕ) (r : Right) → sane_choice r.choice ≡ true → Derive src (expr_pieces names r.expr level.Expression) (is_expr_in (is_paren n)) (IsExpr src names (bare_expr r.expr) (form r.expr)) →
       Derive src (right_pieces names r) (grammar.is_right (is_paren n)) (IsRight r)
-  right_derives n r h d = derive_right src (is_map grammar.alone grammar.is_choice) (is_map grammar.right_of (is_both (is_expr_in (is_paren n)) is_tail)) (IsRight r) (right_pieces names r)
-      (derive_map src grammar.right_of (is_both (is_expr_in (is_paren n)) is_tail) _ (IsRight r) (right_pieces names r) (λ x k. right_again r x.0 x.1 h k.0 k.1)
-      (derive_both src (is_expr_in (is_paren n)) is_tail (IsExpr src names (bare_expr r.expr) (form r.expr)) (IsTail r.choice) (expr_pieces names r.expr level.Expression) (choice_pieces r.choice) d (tail_derives r.choice)))
+  right_derives n r h d = derive_right src _ _ (IsRight r) (right_pieces names r) (derive_map src grammar.right_of _ _ (IsRight r) (right_pieces names r) (λ x k. right_again r x.0 x.1 h k.0 k.1)
+      (derive_both src _ is_tail (IsExpr src names (bare_expr r.expr) (form r.expr)) (IsTail r.choice) (expr_pieces names r.expr level.Expression) (choice_pieces r.choice) d (tail_derives r.choice)))
 
   pub shown_right : AreDistinct names → (r : Right) → sane_right (length names) r ≡ true → Derivable src (right_pieces names r) (λ n. grammar.is_right (is_paren n)) (IsRight r)
   shown_right distinct r h =

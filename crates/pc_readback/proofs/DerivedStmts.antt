@@ -56,14 +56,14 @@ module _ (src : Bytes) (names : List Bytes) (distinct : AreDistinct names) where
   one_before x xs (t ∷ ts) h = rw (edges-cons x xs) (then_again src names (bare_stmt x) (edges x) t (bare xs) (sum (map edges xs)) ts h.0 h.1)
 
   list_shown : (xs : List Stmt) → AllByRecursion Claim xs → sane_stmts (length names) xs ≡ true → (m : ℕ) → Derivable src (stmts_pieces names xs m) (λ n. is_many (is_stmt n)) (Statements xs)
-  list_shown [] c h m = (0, λ n i. derive_as src (is_many (is_stmt n)) (λ ts. ts ≡ []) (Statements []) [] nothing_left (derive_nil src (is_stmt n)))
+  list_shown [] c h m = (0, λ n i. derive_as src _ (λ ts. ts ≡ []) (Statements []) [] nothing_left (derive_nil src (is_stmt n)))
   list_shown (x ∷ xs) c h m =
       let p = and_is (sane_stmt (length names) x) (sane_stmts (length names) xs) h in
       let d = c.0 p.0 m in
       let e = list_shown xs c.1 p.1 m in (
         d.0 + e.0,
-        λ n i. derive_as src (is_many (is_stmt n)) (Front src (IsStmt src names (bare_stmt x) (edges x)) (Statements xs)) (Statements (x ∷ xs)) (stmts_pieces names (x ∷ xs) m) (one_before x xs)
-            (derive_cons src (is_stmt n) (IsStmt src names (bare_stmt x) (edges x)) (Statements xs) (stmt_pieces names x m) (stmts_pieces names xs m) (d.1 n (omega arith)) (e.1 n (omega arith))),
+        λ n i. derive_as src _ (Front src (IsStmt src names (bare_stmt x) (edges x)) (Statements xs)) (Statements (x ∷ xs)) (stmts_pieces names (x ∷ xs) m) (one_before x xs)
+            (derive_cons src _ (IsStmt src names (bare_stmt x) (edges x)) (Statements xs) (stmt_pieces names x m) (stmts_pieces names xs m) (d.1 n (omega arith)) (e.1 n (omega arith))),
       )
 
   block_shown : (xs : List Stmt) (m : ℕ) → Derivable src (stmts_pieces names xs (m + 2)) (λ n. is_many (is_stmt n)) (Statements xs) → Derivable src (block (map (stmt_pieces names) xs) m) grammar.is_block (Statements xs)
@@ -76,7 +76,7 @@ module _ (src : Bytes) (names : List Bytes) (distinct : AreDistinct names) where
 
   else_shown : (ys : List Stmt) (m : ℕ) → Derivable src (stmts_pieces names ys (m + 2)) (λ n. is_many (is_stmt n)) (Statements ys) →
       Derivable src (else_part (map (stmt_pieces names) ys) m) (λ n. grammar.is_after terminal.Else (grammar.is_block n)) (Statements ys)
-  else_shown [] m d = (0, λ n i. derive_as src (grammar.is_after terminal.Else (grammar.is_block n)) (λ ts. ts ≡ []) (Statements []) [] nothing_left (derive_missing src terminal.Else (grammar.is_block n)))
+  else_shown [] m d = (0, λ n i. derive_as src _ (λ ts. ts ≡ []) (Statements []) [] nothing_left (derive_missing src terminal.Else (grammar.is_block n)))
   else_shown (y ∷ ys) m d =
       let b = block_shown (y ∷ ys) m d in
       (b.0, λ n i. derive_after src terminal.Else (grammar.is_block n) _ (Statements (y ∷ ys)) (Blank 1 ∷ Mark terminal.Else ∷ []) (block (map (stmt_pieces names) (y ∷ ys)) m) (derive_one src terminal.Else refl) (b.1 n i))
@@ -111,7 +111,7 @@ module _ (src : Bytes) (names : List Bytes) (distinct : AreDistinct names) where
       )
 
   tried_shown : (cs : List Compare) → sane_each (length names) cs ≡ true → Derivable src (tried_pieces names cs) (λ n. grammar.is_tried (is_paren n)) (AreCompares src names false cs)
-  tried_shown [] h = (0, λ n i. derive_as src (grammar.is_tried (is_paren n)) (λ ts. ts ≡ []) (AreCompares src names false []) [] (λ ts e. rw e (none_again src names false)) (derive_missing src terminal.Try (grammar.is_enclosed (grammar.is_all (is_paren n)))))
+  tried_shown [] h = (0, λ n i. derive_as src _ (λ ts. ts ≡ []) (AreCompares src names false []) [] (λ ts e. rw e (none_again src names false)) (derive_missing src terminal.Try (grammar.is_enclosed (grammar.is_all (is_paren n)))))
   tried_shown (c ∷ cs) h =
       let d = shown_conjunction src names distinct c cs h in (
         d.0,

@@ -34,20 +34,12 @@ use Rattle.pc_readback.proofs.ComparesAgain.{IsCompare, AreCompares, IsTest, com
 
 sign_is : (o : Op) → has grammar.operators (sign_of o) ≡ true
 sign_is op.Less = refl
-sign_is op.AtMost = refl
-sign_is op.Greater = refl
-sign_is op.AtLeast = refl
-sign_is op.Equal = refl
-sign_is op.Unequal = refl
+sign_is o = refl
 
 -- a sign says its operator
 sign_says : (o : Op) → grammar.op_of (sign_of o) ≡ o
 sign_says op.Less = refl
-sign_says op.AtMost = refl
-sign_says op.Greater = refl
-sign_says op.AtLeast = refl
-sign_says op.Equal = refl
-sign_says op.Unequal = refl
+sign_says o = refl
 
 module _ (src : Bytes) (names : List Bytes) (distinct : AreDistinct names) where
   -- an expression that keeps the context rules
@@ -61,10 +53,8 @@ module _ (src : Bytes) (names : List Bytes) (distinct : AreDistinct names) where
   compare_derives : (P : Lang ExprTree) (ps qs : List Piece) (o : Op) (X Y : ExprTree → Type 0) (Q : CompareTree → Type 0) →
       ((s : Symbol) (x y : ExprTree) → grammar.op_of s.terminal ≡ o → X x → Y y → Q (grammar.compare_of (x, (s, y)))) →
       Derive src ps (is_expr_in P) X → Derive src qs (is_expr_in P) Y → Derive src (ps ++ (spaced (sign_of o) ++ qs)) (grammar.is_compare P) Q
-  compare_derives P ps qs o X Y Q f d e = derive_map src grammar.compare_of (is_both (is_expr_in P) (is_both (is_one_of grammar.operators) (is_expr_in P))) _ Q (ps ++ (spaced (sign_of o) ++ qs))
-      (λ x h. f x.1.0 x.0 x.1.1 (ap grammar.op_of h.1.0 ∙ sign_says o) h.0 h.1.1)
-      (derive_both src (is_expr_in P) (is_both (is_one_of grammar.operators) (is_expr_in P)) X _ ps (spaced (sign_of o) ++ qs) d
-      (derive_both src (is_one_of grammar.operators) (is_expr_in P) _ Y (spaced (sign_of o)) qs (derive_one_of src grammar.operators (sign_of o) (sign_is o)) e))
+  compare_derives P ps qs o X Y Q f d e = derive_map src grammar.compare_of _ _ Q (ps ++ (spaced (sign_of o) ++ qs)) (λ x h. f x.1.0 x.0 x.1.1 (ap grammar.op_of h.1.0 ∙ sign_says o) h.0 h.1.1) (derive_both src _ _ X _ ps (spaced (sign_of o) ++ qs) d
+      (derive_both src _ _ _ Y (spaced (sign_of o)) qs (derive_one_of src grammar.operators (sign_of o) (sign_is o)) e))
 
   shown_compare : (alone : Bool) (c : Compare) → may_stand alone (length names) c ≡ true →
       Derivable src (compare_pieces names c) (λ n. grammar.is_compare (is_paren n)) (IsCompare src names alone c)
@@ -100,12 +90,12 @@ module _ (src : Bytes) (names : List Bytes) (distinct : AreDistinct names) where
 
     further_derives : (n : ℕ) (c : Compare) (cs : List Compare) → Derive src (compare_pieces names c) (grammar.is_compare (is_paren n)) (IsCompare src names alone c) →
         Derive src (further_pieces names cs) (further n) (AreBehind cs) → Derive src (further_pieces names (c ∷ cs)) (further n) (AreBehind (c ∷ cs))
-    further_derives n c cs d e = derive_as src (further n) (Front src (IsBehind c) (AreBehind cs)) (AreBehind (c ∷ cs)) (further_pieces names (c ∷ cs)) (behind_more c cs)
-        (derive_cons src (is_both (is_one terminal.And) (grammar.is_compare (is_paren n))) (IsBehind c) (AreBehind cs) (spaced terminal.And ++ compare_pieces names c) (further_pieces names cs)
-        (derive_both src (is_one terminal.And) (grammar.is_compare (is_paren n)) _ (IsCompare src names alone c) (spaced terminal.And) (compare_pieces names c) (derive_one src terminal.And refl) d) e)
+    further_derives n c cs d e = derive_as src _ (Front src (IsBehind c) (AreBehind cs)) (AreBehind (c ∷ cs)) (further_pieces names (c ∷ cs)) (behind_more c cs)
+        (derive_cons src _ (IsBehind c) (AreBehind cs) (spaced terminal.And ++ compare_pieces names c) (further_pieces names cs)
+        (derive_both src _ _ _ (IsCompare src names alone c) (spaced terminal.And) (compare_pieces names c) (derive_one src terminal.And refl) d) e)
 
     shown_further : (cs : List Compare) → list_all (may_stand alone (length names)) cs ≡ true → Derivable src (further_pieces names cs) further (AreBehind cs)
-    shown_further [] h = (0, λ n i. derive_as src (further n) (λ ys. ys ≡ []) (AreBehind []) [] behind_none (derive_nil src (is_both (is_one terminal.And) (grammar.is_compare (is_paren n)))))
+    shown_further [] h = (0, λ n i. derive_as src _ (λ ys. ys ≡ []) (AreBehind []) [] behind_none (derive_nil src (is_both (is_one terminal.And) (grammar.is_compare (is_paren n)))))
     shown_further (c ∷ cs) h =
         let p = and_is (may_stand alone (length names) c) (list_all (may_stand alone (length names)) cs) h in
         let x = shown_compare alone c p.0 in
@@ -114,9 +104,8 @@ module _ (src : Bytes) (names : List Bytes) (distinct : AreDistinct names) where
 
     all_derives : (n : ℕ) (c : Compare) (cs : List Compare) → Derive src (compare_pieces names c) (grammar.is_compare (is_paren n)) (IsCompare src names alone c) →
         Derive src (further_pieces names cs) (further n) (AreBehind cs) → Derive src (all_pieces names (c ∷ cs)) (grammar.is_all (is_paren n)) (AreCompares src names alone (c ∷ cs))
-    all_derives n c cs d e = derive_map src grammar.all_items (is_both (grammar.is_compare (is_paren n)) (further n)) (Both src (IsCompare src names alone c) (AreBehind cs)) (AreCompares src names alone (c ∷ cs))
-        (all_pieces names (c ∷ cs)) (λ x h. more_again src names alone c cs x.0 (grammar.seconds x.1) h.0 h.1)
-        (derive_both src (grammar.is_compare (is_paren n)) (further n) (IsCompare src names alone c) (AreBehind cs) (compare_pieces names c) (further_pieces names cs) d e)
+    all_derives n c cs d e = derive_map src grammar.all_items _ (Both src (IsCompare src names alone c) (AreBehind cs)) (AreCompares src names alone (c ∷ cs))
+        (all_pieces names (c ∷ cs)) (λ x h. more_again src names alone c cs x.0 (grammar.seconds x.1) h.0 h.1) (derive_both src _ _ (IsCompare src names alone c) (AreBehind cs) (compare_pieces names c) (further_pieces names cs) d e)
 
     shown_all : (c : Compare) (cs : List Compare) → list_all (may_stand alone (length names)) (c ∷ cs) ≡ true →
         Derivable src (all_pieces names (c ∷ cs)) (λ n. grammar.is_all (is_paren n)) (AreCompares src names alone (c ∷ cs))
@@ -135,13 +124,13 @@ module _ (src : Bytes) (names : List Bytes) (distinct : AreDistinct names) where
 
   test_derives : (n : ℕ) (ps : List Piece) (Q : List CompareTree → Type 0) (R : TestTree → Type 0) → ((ts : List CompareTree) → Q ts → R (grammar.holds ts)) →
       Derive src ps (grammar.is_all (is_paren n)) Q → Derive src ps (grammar.is_test (is_paren n)) R
-  test_derives n ps Q R f d = derive_right src (is_map grammar.any (is_one terminal.Star)) (is_map grammar.holds (grammar.is_all (is_paren n))) R ps (derive_map src grammar.holds (grammar.is_all (is_paren n)) Q R ps f d)
+  test_derives n ps Q R f d = derive_right src _ _ R ps (derive_map src grammar.holds _ Q R ps f d)
 
   pub shown_test : (t : Test) → sane_test (length names) t ≡ true → Derivable src (test_pieces names t) (λ n. grammar.is_test (is_paren n)) (IsTest src names t)
   shown_test test.Any h = (
     0,
-    λ n i. derive_left src (is_map grammar.any (is_one terminal.Star)) (is_map grammar.holds (grammar.is_all (is_paren n))) (IsTest src names test.Any) (Mark terminal.Star ∷ [])
-        (derive_map src grammar.any (is_one terminal.Star) _ (IsTest src names test.Any) (Mark terminal.Star ∷ []) (λ s k. any_again src names) (derive_one src terminal.Star refl)),
+    λ n i. derive_left src _ _ (IsTest src names test.Any) (Mark terminal.Star ∷ [])
+        (derive_map src grammar.any _ _ (IsTest src names test.Any) (Mark terminal.Star ∷ []) (λ s k. any_again src names) (derive_one src terminal.Star refl)),
   )
   shown_test (test.All []) h = absurd (cc)
   shown_test (test.All (c ∷ [])) h =

@@ -6,7 +6,6 @@ pub mod SignBounds
 pub mod Seen
 pub mod SeenExprs
 pub mod SeenTests
-pub mod ShortStmts
 pub mod Nesting
 pub mod SeenStmts
 pub mod SeenPrograms
@@ -37,3 +36,8 @@ pub mod ReadBack
 pub mod BareExamples
 pub mod BareTexts
 pub mod Spelled
+mod MadeLists
+mod MadeSanity
+mod MadeShown
+mod MadeTexts
+pub mod MadeSpelled

@@ -75,31 +75,30 @@ module _ (src : Bytes) where
   behind_more w ws (y ∷ ys) h = rw (h.0.1, h.1) refl
 
   further_derive : (ws : List Bytes) → Derive src (further_names ws) (is_many (is_both (is_one terminal.Comma) (is_one terminal.Name))) (AreBehind ws)
-  further_derive [] = derive_as src (is_many (is_both (is_one terminal.Comma) (is_one terminal.Name))) (λ ys. ys ≡ []) (AreBehind []) [] (λ ys e. rw e refl) (derive_nil src (is_both (is_one terminal.Comma) (is_one terminal.Name)))
-  further_derive (w ∷ ws) = derive_as src (is_many (is_both (is_one terminal.Comma) (is_one terminal.Name))) (Front src (IsBehind w) (AreBehind ws)) (AreBehind (w ∷ ws)) (further_names (w ∷ ws)) (behind_more w ws)
-      (derive_cons src (is_both (is_one terminal.Comma) (is_one terminal.Name)) (IsBehind w) (AreBehind ws) (Mark terminal.Comma ∷ Blank 1 ∷ Name w ∷ []) (further_names ws)
-      (derive_both src (is_one terminal.Comma) (is_one terminal.Name) _ _ (Mark terminal.Comma ∷ Blank 1 ∷ []) (Name w ∷ []) (derive_one src terminal.Comma refl) (derive_name src w)) (further_derive ws))
+  further_derive [] = derive_as src _ (λ ys. ys ≡ []) (AreBehind []) [] (λ ys e. rw e refl) (derive_nil src (is_both (is_one terminal.Comma) (is_one terminal.Name)))
+  further_derive (w ∷ ws) = derive_as src _ (Front src (IsBehind w) (AreBehind ws)) (AreBehind (w ∷ ws)) (further_names (w ∷ ws)) (behind_more w ws)
+      (derive_cons src _ (IsBehind w) (AreBehind ws) (Mark terminal.Comma ∷ Blank 1 ∷ Name w ∷ []) (further_names ws)
+      (derive_both src _ _ _ _ (Mark terminal.Comma ∷ Blank 1 ∷ []) (Name w ∷ []) (derive_one src terminal.Comma refl) (derive_name src w)) (further_derive ws))
 
   names_derive : (w : Bytes) (ws : List Bytes) → Derive src (names_pieces (w ∷ ws)) grammar.is_names (AreNames (w ∷ ws))
-  names_derive w ws = derive_map src all_items (is_both (is_one terminal.Name) (is_many (is_both (is_one terminal.Comma) (is_one terminal.Name)))) _ (AreNames (w ∷ ws)) (names_pieces (w ∷ ws)) (λ x h. rw (h.0, h.1) refl)
-      (derive_both src (is_one terminal.Name) (is_many (is_both (is_one terminal.Comma) (is_one terminal.Name))) _ (AreBehind ws) (Name w ∷ []) (further_names ws) (derive_name src w) (further_derive ws))
+  names_derive w ws = derive_map src all_items _ _ (AreNames (w ∷ ws)) (names_pieces (w ∷ ws)) (λ x h. rw (h.0, h.1) refl) (derive_both src _ _ _ (AreBehind ws) (Name w ∷ []) (further_names ws) (derive_name src w) (further_derive ws))
 
   given_names : (ws : List Bytes) (o : Option (List Symbol)) → Given src (AreNames ws) o → AreNames ws (grammar.given o)
   given_names ws None h = absurd h
   given_names ws (Some xs) h = h
 
   pub params_derive : (ws : List Bytes) → Derive src (names_pieces ws) (is_map grammar.given (is_maybe grammar.is_names)) (AreNames ws)
-  params_derive [] = derive_map src grammar.given (is_maybe grammar.is_names) _ (AreNames []) [] (λ o e. rw e refl) (derive_none src grammar.is_names)
-  params_derive (w ∷ ws) = derive_map src grammar.given (is_maybe grammar.is_names) _ (AreNames (w ∷ ws)) (names_pieces (w ∷ ws)) (given_names (w ∷ ws)) (derive_some src grammar.is_names _ (names_pieces (w ∷ ws)) (names_derive w ws))
+  params_derive [] = derive_map src grammar.given _ _ (AreNames []) [] (λ o e. rw e refl) (derive_none src grammar.is_names)
+  params_derive (w ∷ ws) = derive_map src grammar.given _ _ (AreNames (w ∷ ws)) (names_pieces (w ∷ ws)) (given_names (w ∷ ws)) (derive_some src grammar.is_names _ (names_pieces (w ∷ ws)) (names_derive w ws))
 
   line_derives : (w : Bytes) (ws : List Bytes) → Derive src (locals_pieces (w ∷ ws)) grammar.is_var_line (AreNames (w ∷ ws))
-  line_derives w ws = derive_map src grammar.var_names (is_both (is_one terminal.Var) (is_both grammar.is_names (is_one terminal.Semicolon))) _ (AreNames (w ∷ ws)) (locals_pieces (w ∷ ws)) (λ x h. h.1.0)
-      (derive_both src (is_one terminal.Var) (is_both grammar.is_names (is_one terminal.Semicolon)) _ _ (Blank 2 ∷ Mark terminal.Var ∷ Blank 1 ∷ []) (names_pieces (w ∷ ws) ++ Mark terminal.Semicolon ∷ LineEnd ∷ [])
-      (derive_one src terminal.Var refl) (derive_both src grammar.is_names (is_one terminal.Semicolon) (AreNames (w ∷ ws)) _ (names_pieces (w ∷ ws)) (Mark terminal.Semicolon ∷ LineEnd ∷ []) (names_derive w ws) (derive_one src terminal.Semicolon refl)))
+  line_derives w ws = derive_map src grammar.var_names _ _ (AreNames (w ∷ ws)) (locals_pieces (w ∷ ws)) (λ x h. h.1.0)
+      (derive_both src _ _ _ _ (Blank 2 ∷ Mark terminal.Var ∷ Blank 1 ∷ []) (names_pieces (w ∷ ws) ++ Mark terminal.Semicolon ∷ LineEnd ∷ [])
+      (derive_one src terminal.Var refl) (derive_both src grammar.is_names _ (AreNames (w ∷ ws)) _ (names_pieces (w ∷ ws)) (Mark terminal.Semicolon ∷ LineEnd ∷ []) (names_derive w ws) (derive_one src terminal.Semicolon refl)))
 
   pub locals_derive : (ws : List Bytes) → Derive src (locals_pieces ws) grammar.is_locals (AreNames ws)
-  locals_derive [] = derive_map src grammar.flat (is_many grammar.is_var_line) _ (AreNames []) [] (λ xss e. rw e refl) (derive_nil src grammar.is_var_line)
-  locals_derive (w ∷ ws) = derive_map src grammar.flat (is_many grammar.is_var_line) (Front src (AreNames (w ∷ ws)) (λ xss. xss ≡ [])) (AreNames (w ∷ ws)) (locals_pieces (w ∷ ws)) by
+  locals_derive [] = derive_map src grammar.flat _ _ (AreNames []) [] (λ xss e. rw e refl) (derive_nil src grammar.is_var_line)
+  locals_derive (w ∷ ws) = derive_map src grammar.flat _ (Front src (AreNames (w ∷ ws)) (λ xss. xss ≡ [])) (AreNames (w ∷ ws)) (locals_pieces (w ∷ ws)) by
       (subst (λ ps. Derive src ps (is_many grammar.is_var_line) (Front src (AreNames (w ∷ ws)) (λ xss. xss ≡ []))) (append-nil (locals_pieces (w ∷ ws)))
       (derive_cons src grammar.is_var_line (AreNames (w ∷ ws)) (λ xss. xss ≡ []) (locals_pieces (w ∷ ws)) [] (line_derives w ws) (derive_nil src grammar.is_var_line)))
     where

@@ -10,7 +10,7 @@ use Rattle.pc_language.specs.declared.limits.TheConstants.{BRACES}
 use Rattle.pc_grammar.specs.Terminals.{has}
 use Rattle.pc_grammar.specs.Limits.{braces_after}
 use Rattle.pc_program.proofs.Results.{and_of}
-use Rattle.pc_readback.proofs.Seen.{IsOne}
+use Rattle.pc_syntax.proofs.Phrases.{IsOne}
 use Rattle.pc_readback.proofs.SeenTests.{Holds}
 
 pub record Opens (n m : ℕ) : Type 0 where

@@ -47,26 +47,15 @@ Ends p [] = Unit {0}
 Ends p (b ∷ r) = p b ≡ false
 
 no_letter : (c : Class) → is_stopping c ≡ true → is_letter_or_digit c ≡ false
-no_letter BlankByte e = refl
 no_letter Slash e = cc
 no_letter Letter e = cc
 no_letter Digit e = cc
-no_letter Alone e = refl
-no_letter MayEqual e = refl
-no_letter Bang e = refl
-no_letter Ampersand e = refl
-no_letter Other e = refl
+no_letter c e = refl
 
 no_digit : (c : Class) → is_stopping c ≡ true → is_digit c ≡ false
-no_digit BlankByte e = refl
 no_digit Slash e = cc
-no_digit Letter e = refl
 no_digit Digit e = cc
-no_digit Alone e = refl
-no_digit MayEqual e = refl
-no_digit Bang e = refl
-no_digit Ampersand e = refl
-no_digit Other e = refl
+no_digit c e = refl
 
 ends_word : (r : Bytes) → IsStop r → Ends in_word r
 ends_word [] h = tt
@@ -158,14 +147,6 @@ mark_formed terminal.While e = (refl, (refl, (refl, (refl, (refl, tt)))))
 mark_formed terminal.Try e = (refl, (refl, (refl, tt)))
 mark_formed terminal.Assert e = (refl, (refl, (refl, (refl, (refl, (refl, tt))))))
 mark_formed terminal.Assume e = (refl, (refl, (refl, (refl, (refl, (refl, tt))))))
-mark_formed terminal.OpenParen e = inl refl
-mark_formed terminal.CloseParen e = inl refl
-mark_formed terminal.OpenBrace e = inl refl
-mark_formed terminal.CloseBrace e = inl refl
-mark_formed terminal.OpenBracket e = inl refl
-mark_formed terminal.CloseBracket e = inl refl
-mark_formed terminal.Comma e = inl refl
-mark_formed terminal.Semicolon e = inl refl
 mark_formed terminal.Assign e = inr refl
 mark_formed terminal.Equal e = inl (refl, refl)
 mark_formed terminal.Unequal e = inr (inl (refl, refl))
@@ -173,10 +154,8 @@ mark_formed terminal.Less e = inr refl
 mark_formed terminal.AtMost e = inl (refl, refl)
 mark_formed terminal.Greater e = inr refl
 mark_formed terminal.AtLeast e = inl (refl, refl)
-mark_formed terminal.Plus e = inl refl
-mark_formed terminal.Minus e = inl refl
-mark_formed terminal.Star e = inl refl
 mark_formed terminal.And e = inr (inr (refl, refl))
+mark_formed t e = inl refl
 
 mark_first : (t : Terminal) (r : Bytes) → is_mark t ≡ true → (is_open t ≡ true → IsStop r) → longest (spelling t ++ r) ≡ Some (form_of t, length (spelling t))
 unfolding class
@@ -190,25 +169,10 @@ mark_first terminal.While r e s = word_first (codes "while") r (mark_formed term
 mark_first terminal.Try r e s = word_first (codes "try") r (mark_formed terminal.Try refl) (s refl)
 mark_first terminal.Assert r e s = word_first (codes "assert") r (mark_formed terminal.Assert refl) (s refl)
 mark_first terminal.Assume r e s = word_first (codes "assume") r (mark_formed terminal.Assume refl) (s refl)
-mark_first terminal.OpenParen r e s = refl
-mark_first terminal.CloseParen r e s = refl
-mark_first terminal.OpenBrace r e s = refl
-mark_first terminal.CloseBrace r e s = refl
-mark_first terminal.OpenBracket r e s = refl
-mark_first terminal.CloseBracket r e s = refl
-mark_first terminal.Comma r e s = refl
-mark_first terminal.Semicolon r e s = refl
 mark_first terminal.Assign r e s = may_equal r (s refl)
-mark_first terminal.Equal r e s = refl
-mark_first terminal.Unequal r e s = refl
 mark_first terminal.Less r e s = may_equal r (s refl)
-mark_first terminal.AtMost r e s = refl
 mark_first terminal.Greater r e s = may_equal r (s refl)
-mark_first terminal.AtLeast r e s = refl
-mark_first terminal.Plus r e s = refl
-mark_first terminal.Minus r e s = refl
-mark_first terminal.Star r e s = refl
-mark_first terminal.And r e s = refl
+mark_first t r e s = refl
 
 mark_fits : (t : Terminal) → is_mark t ≡ true → Fits (form_of t) (spelling t)
 mark_fits terminal.Name e = cc
@@ -221,25 +185,7 @@ mark_fits terminal.While e = omega arith
 mark_fits terminal.Try e = omega arith
 mark_fits terminal.Assert e = omega arith
 mark_fits terminal.Assume e = omega arith
-mark_fits terminal.OpenParen e = tt
-mark_fits terminal.CloseParen e = tt
-mark_fits terminal.OpenBrace e = tt
-mark_fits terminal.CloseBrace e = tt
-mark_fits terminal.OpenBracket e = tt
-mark_fits terminal.CloseBracket e = tt
-mark_fits terminal.Comma e = tt
-mark_fits terminal.Semicolon e = tt
-mark_fits terminal.Assign e = tt
-mark_fits terminal.Equal e = tt
-mark_fits terminal.Unequal e = tt
-mark_fits terminal.Less e = tt
-mark_fits terminal.AtMost e = tt
-mark_fits terminal.Greater e = tt
-mark_fits terminal.AtLeast e = tt
-mark_fits terminal.Plus e = tt
-mark_fits terminal.Minus e = tt
-mark_fits terminal.Star e = tt
-mark_fits terminal.And e = tt
+mark_fits t e = tt
 
 abbrev pub lexemes_of_piece : Piece → List Lexeme
 lexemes_of_piece (Blank n) = replicate n (lexeme form.Blank (32 ∷ []))
@@ -255,15 +201,8 @@ lexemes_of (p ∷ ps) = lexemes_of_piece p ++ lexemes_of ps
 -- ---- words and numbers
 
 letter_is : (c : Class) → is_letter c ≡ true → c ≡ Letter
-letter_is BlankByte e = cc
-letter_is Slash e = cc
 letter_is Letter e = refl
-letter_is Digit e = cc
-letter_is Alone e = cc
-letter_is MayEqual e = cc
-letter_is Bang e = cc
-letter_is Ampersand e = cc
-letter_is Other e = cc
+letter_is c e = cc
 
 word_form : (w : Bytes) → is_word w ≡ true → HasForm form.Word w
 word_form [] h = cc

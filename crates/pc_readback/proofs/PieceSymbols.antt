@@ -31,65 +31,13 @@ mark_kind : (t : Terminal) → is_mark t ≡ true → kind_of (form_of t) (spell
 unfolding is_keyword
 mark_kind terminal.Name e = cc
 mark_kind terminal.Number e = cc
-mark_kind terminal.Entry e = refl
-mark_kind terminal.Var e = refl
-mark_kind terminal.If e = refl
-mark_kind terminal.Else e = refl
-mark_kind terminal.While e = refl
-mark_kind terminal.Try e = refl
-mark_kind terminal.Assert e = refl
-mark_kind terminal.Assume e = refl
-mark_kind terminal.OpenParen e = refl
-mark_kind terminal.CloseParen e = refl
-mark_kind terminal.OpenBrace e = refl
-mark_kind terminal.CloseBrace e = refl
-mark_kind terminal.OpenBracket e = refl
-mark_kind terminal.CloseBracket e = refl
-mark_kind terminal.Comma e = refl
-mark_kind terminal.Semicolon e = refl
-mark_kind terminal.Assign e = refl
-mark_kind terminal.Equal e = refl
-mark_kind terminal.Unequal e = refl
-mark_kind terminal.Less e = refl
-mark_kind terminal.AtMost e = refl
-mark_kind terminal.Greater e = refl
-mark_kind terminal.AtLeast e = refl
-mark_kind terminal.Plus e = refl
-mark_kind terminal.Minus e = refl
-mark_kind terminal.Star e = refl
-mark_kind terminal.And e = refl
+mark_kind t e = refl
 
 mark_terminal : (t : Terminal) → is_mark t ≡ true → terminal_of (kind_of_mark t) (spelling t) ≡ t
 unfolding keyword_of byte_sign pair_sign
 mark_terminal terminal.Name e = cc
 mark_terminal terminal.Number e = cc
-mark_terminal terminal.Entry e = refl
-mark_terminal terminal.Var e = refl
-mark_terminal terminal.If e = refl
-mark_terminal terminal.Else e = refl
-mark_terminal terminal.While e = refl
-mark_terminal terminal.Try e = refl
-mark_terminal terminal.Assert e = refl
-mark_terminal terminal.Assume e = refl
-mark_terminal terminal.OpenParen e = refl
-mark_terminal terminal.CloseParen e = refl
-mark_terminal terminal.OpenBrace e = refl
-mark_terminal terminal.CloseBrace e = refl
-mark_terminal terminal.OpenBracket e = refl
-mark_terminal terminal.CloseBracket e = refl
-mark_terminal terminal.Comma e = refl
-mark_terminal terminal.Semicolon e = refl
-mark_terminal terminal.Assign e = refl
-mark_terminal terminal.Equal e = refl
-mark_terminal terminal.Unequal e = refl
-mark_terminal terminal.Less e = refl
-mark_terminal terminal.AtMost e = refl
-mark_terminal terminal.Greater e = refl
-mark_terminal terminal.AtLeast e = refl
-mark_terminal terminal.Plus e = refl
-mark_terminal terminal.Minus e = refl
-mark_terminal terminal.Star e = refl
-mark_terminal terminal.And e = refl
+mark_terminal t e = refl
 
 name_kind : (w : Bytes) → is_keyword w ≡ false → kind_of form.Word w ≡ Some kind.Name
 name_kind w e = rw e refl

@@ -22,8 +22,10 @@ use Rattle.pc_show.specs.declared.showing.level.Level.TheVariants as level
 use Rattle.pc_readback.specs.ShownTrees as short
 use Rattle.pc_program.proofs.Results.{and_of}
 use Rattle.pc_readback.proofs.SignBounds.{signs-num}
-use Rattle.pc_readback.proofs.Seen.{braces, IsOne, clear_behind, level_behind, Sees, one_sees, map_sees, both_sees, either_sees, maybe_sees, many_sees}
-use Rattle.pc_readback.proofs.SeenExprs.{spelled, Passes, literal-num, expr_sees}
+use Rattle.pc_syntax.proofs.Phrases.{IsOne, Sees, one_sees, map_sees, both_sees, either_sees, maybe_sees, many_sees}
+use Rattle.pc_syntax.proofs.Trees.{at-num}
+use Rattle.pc_readback.proofs.Seen.{braces, clear_behind, level_behind}
+use Rattle.pc_readback.proofs.SeenExprs.{spelled, Passes, expr_sees}
 
 -- a test of a phrase is passed, and the braces are as before
 pub record Holds (b : Bool) (c d : Counts) : Type 0 where
@@ -42,35 +44,32 @@ module _ (src : Bytes) where
   -- what stands behind a sign stands behind no keyword
   pub behind : {A : Type 0} (ks : List Terminal) → apart ks keywords ≡ true → apart ks braces ≡ true → (L : Lang A) (F : A → Bool) → Sees (spelled src) L (λ a. Passes (F a)) →
       Sees (spelled src) (is_both (is_one_of ks) L) (λ x. Holds (F x.1))
-  behind ks k b L F l = both_sees (spelled src) (is_one_of ks) L (IsOne (spelled src) ks) (λ a. Passes (F a)) (λ x. Holds (F x.1))
-      (λ x c e d i j. record { passed = j.passed (clear_behind (spelled src) ks x.0 c e k i); level = j.level ∙ level_behind (spelled src) ks x.0 c e b i })
-      (one_sees (spelled src) ks) l
+  behind ks k b L F l = both_sees (spelled src) _ L (IsOne (spelled src) ks) (λ a. Passes (F a)) (λ x. Holds (F x.1))
+      (λ x c e d i j. record { passed = j.passed (clear_behind (spelled src) ks x.0 c e k i); level = j.level ∙ level_behind (spelled src) ks x.0 c e b i }) (one_sees (spelled src) ks) l
 
   -- a symbol behind a phrase
   pub closed : {A : Type 0} (ks : List Terminal) → apart ks braces ≡ true → (L : Lang A) (F : A → Bool) → Sees (spelled src) L (λ a. Passes (F a)) → Sees (spelled src) (is_both L (is_one_of ks)) (λ x. Passes (F x.0))
-  closed ks b L F l = both_sees (spelled src) L (is_one_of ks) (λ a. Passes (F a)) (IsOne (spelled src) ks) (λ x. Passes (F x.0))
+  closed ks b L F l = both_sees (spelled src) L _ (λ a. Passes (F a)) (IsOne (spelled src) ks) (λ x. Passes (F x.0))
       (λ x c e d i j. record { passed = i.passed; level = level_behind (spelled src) ks x.1 e d b j ∙ i.level }) l (one_sees (spelled src) ks)
 
   pub enclosed_sees : {A : Type 0} (L : Lang A) (F : A → Bool) → Sees (spelled src) L (λ a. Passes (F a)) → Sees (spelled src) (stmts.is_enclosed L) (λ a. Holds (F a))
-  enclosed_sees L F l = map_sees (spelled src) grammar.inner (is_both (is_one terminal.OpenParen) (is_both L (is_one terminal.CloseParen))) (λ x. Holds (F x.1.0)) (λ a. Holds (F a)) (λ x c d i. i)
+  enclosed_sees L F l = map_sees (spelled src) grammar.inner _ (λ x. Holds (F x.1.0)) (λ a. Holds (F a)) (λ x c d i. i)
       (behind (terminal.OpenParen ∷ []) refl refl (is_both L (is_one terminal.CloseParen)) (λ x. F x.0) (closed (terminal.CloseParen ∷ []) refl L F l))
 
   -- a phrase, and further ones of its kind behind signs
   pub separated_sees : {A : Type 0} (k : Terminal) → apart (k ∷ []) keywords ≡ true → apart (k ∷ []) braces ≡ true → (L : Lang A) (F : A → Bool) → Sees (spelled src) L (λ a. Passes (F a)) →
       Sees (spelled src) (stmts.is_separated k L) (λ xs. Passes (list_all F xs))
-  separated_sees k p q L F l = map_sees (spelled src) stmts.all_items (is_both L (is_many (is_both (is_one k) L))) (λ x. Passes (F x.0 && list_all (λ y. F y.1) x.1)) (λ xs. Passes (list_all F xs))
+  separated_sees k p q L F l = map_sees (spelled src) stmts.all_items _ (λ x. Passes (F x.0 && list_all (λ y. F y.1) x.1)) (λ xs. Passes (list_all F xs))
       (λ x c d i. record { passed = λ b. ap (λ b. F x.0 && b) (seconds_are F x.1) ∙ i.passed b; level = i.level })
-      (both_sees (spelled src) L (is_many (is_both (is_one k) L)) (λ a. Passes (F a)) (λ ys. Holds (list_all (λ y. F y.1) ys)) (λ x. Passes (F x.0 && list_all (λ y. F y.1) x.1))
+      (both_sees (spelled src) L _ (λ a. Passes (F a)) (λ ys. Holds (list_all (λ y. F y.1) ys)) (λ x. Passes (F x.0 && list_all (λ y. F y.1) x.1))
       (λ x c e d i j. record { passed = λ b. and_of (F x.0) (list_all (λ y. F y.1) x.1) (i.passed b) j.passed; level = j.level ∙ i.level }) l
-      (many_sees (spelled src) (is_both (is_one k) L) (λ y. Holds (F y.1)) (λ ys. Holds (list_all (λ y. F y.1) ys)) (λ c. record { passed = refl; level = refl })
+      (many_sees (spelled src) _ (λ y. Holds (F y.1)) (λ ys. Holds (list_all (λ y. F y.1) ys)) (λ c. record { passed = refl; level = refl })
       (λ y ys c e d i j. record { passed = and_of (F y.1) (list_all (λ y. F y.1) ys) i.passed j.passed; level = j.level ∙ i.level }) (behind (k ∷ []) p q L F l)))
 
   module _ (n : ℕ) where
     compare_sees : Sees (spelled src) (stmts.is_compare (grammar.is_paren n)) (λ t. Passes (short.short_compare t))
-    compare_sees = map_sees (spelled src) stmts.compare_of (is_both (grammar.is_expr_in (grammar.is_paren n)) (is_both (is_one_of stmts.operators) (grammar.is_expr_in (grammar.is_paren n))))
-        (λ x. Passes (short.short_expr x.0 && short.short_expr x.1.1)) (λ t. Passes (short.short_compare t)) (λ x c d i. i)
-        (both_sees (spelled src) (grammar.is_expr_in (grammar.is_paren n)) (is_both (is_one_of stmts.operators) (grammar.is_expr_in (grammar.is_paren n))) (λ t. Passes (short.short_expr t)) (λ y. Holds (short.short_expr y.1))
-        (λ x. Passes (short.short_expr x.0 && short.short_expr x.1.1))
+    compare_sees = map_sees (spelled src) stmts.compare_of _ (λ x. Passes (short.short_expr x.0 && short.short_expr x.1.1)) (λ t. Passes (short.short_compare t)) (λ x c d i. i)
+        (both_sees (spelled src) _ _ (λ t. Passes (short.short_expr t)) (λ y. Holds (short.short_expr y.1)) (λ x. Passes (short.short_expr x.0 && short.short_expr x.1.1))
         (λ x c e d i j. record { passed = λ b. and_of (short.short_expr x.0) (short.short_expr x.1.1) (i.passed b) j.passed; level = j.level ∙ i.level })
         (expr_sees src n) (behind stmts.operators refl refl (grammar.is_expr_in (grammar.is_paren n)) short.short_expr (expr_sees src n)))
 
@@ -78,30 +77,27 @@ module _ (src : Bytes) where
     all_sees = separated_sees terminal.And refl refl (stmts.is_compare (grammar.is_paren n)) short.short_compare compare_sees
 
     pub test_sees : Sees (spelled src) (stmts.is_test (grammar.is_paren n)) (λ t. Passes (short.short_test t))
-    test_sees = either_sees (spelled src) (is_map stmts.any (is_one terminal.Star)) (is_map stmts.holds (stmts.is_all (grammar.is_paren n))) (λ t. Passes (short.short_test t))
-        (map_sees (spelled src) stmts.any (is_one terminal.Star) (IsOne (spelled src) (terminal.Star ∷ [])) (λ t. Passes (short.short_test t))
+    test_sees = either_sees (spelled src) _ _ (λ t. Passes (short.short_test t)) (map_sees (spelled src) stmts.any _ (IsOne (spelled src) (terminal.Star ∷ [])) (λ t. Passes (short.short_test t))
         (λ s c d i. record { passed = λ b. refl; level = level_behind (spelled src) (terminal.Star ∷ []) s c d refl i }) (one_sees (spelled src) (terminal.Star ∷ [])))
-        (map_sees (spelled src) stmts.holds (stmts.is_all (grammar.is_paren n)) (λ cs. Passes (list_all short.short_compare cs)) (λ t. Passes (short.short_test t)) (λ cs c d i. i) all_sees)
+        (map_sees (spelled src) stmts.holds _ (λ cs. Passes (list_all short.short_compare cs)) (λ t. Passes (short.short_test t)) (λ cs c d i. i) all_sees)
 
   -- ---- right sides
 
   level_one : (ks : List Terminal) → apart ks braces ≡ true → Sees (spelled src) (is_one_of ks) Level
-  level_one ks b s w v l h c d k = level_behind (spelled src) ks s c d b (one_sees (spelled src) ks s w v l h c d k)
+  level_one ks b s w v l h most c d k = level_behind (spelled src) ks s c d b (one_sees (spelled src) ks s w v l h most c d k)
 
   level_both : {A B : Type 0} (L : Lang A) (M : Lang B) → Sees (spelled src) L Level → Sees (spelled src) M Level → Sees (spelled src) (is_both L M) Level
   level_both L M l m = both_sees (spelled src) L M Level Level Level (λ x c e d i j. j ∙ i) l m
 
   closed_bound_sees : Sees (spelled src) rights.is_closed_bound Level
-  closed_bound_sees = map_sees (spelled src) rights.bound_of (is_both (is_maybe (is_one terminal.Minus)) (is_one terminal.Number)) Level Level (λ x c d i. i)
-      (level_both (is_maybe (is_one terminal.Minus)) (is_one terminal.Number)
-      (maybe_sees (spelled src) (is_one terminal.Minus) Level Level (λ c. refl) (λ s c d i. i) (level_one (terminal.Minus ∷ []) refl)) (level_one (terminal.Number ∷ []) refl))
+  closed_bound_sees = map_sees (spelled src) rights.bound_of _ Level Level (λ x c d i. i) (level_both (is_maybe (is_one terminal.Minus)) (is_one terminal.Number)
+      (maybe_sees (spelled src) _ Level Level (λ c. refl) (λ s c d i. i) (level_one (terminal.Minus ∷ []) refl)) (level_one (terminal.Number ∷ []) refl))
 
   bound_sees : Sees (spelled src) rights.is_bound Level
-  bound_sees = either_sees (spelled src) (is_map rights.open_bound (is_one terminal.Star)) rights.is_closed_bound Level
-      (map_sees (spelled src) rights.open_bound (is_one terminal.Star) Level Level (λ s c d i. i) (level_one (terminal.Star ∷ []) refl)) closed_bound_sees
+  bound_sees = either_sees (spelled src) _ rights.is_closed_bound Level (map_sees (spelled src) rights.open_bound _ Level Level (λ s c d i. i) (level_one (terminal.Star ∷ []) refl)) closed_bound_sees
 
   choice_sees : Sees (spelled src) rights.is_choice Level
-  choice_sees = map_sees (spelled src) rights.choice_of (is_both (is_one terminal.OpenBracket) (is_both rights.is_bound (is_both (is_one terminal.Comma) (is_both rights.is_bound (is_one terminal.CloseBracket))))) Level Level (λ x c d i. i)
+  choice_sees = map_sees (spelled src) rights.choice_of _ Level Level (λ x c d i. i)
       (level_both (is_one terminal.OpenBracket) (is_both rights.is_bound (is_both (is_one terminal.Comma) (is_both rights.is_bound (is_one terminal.CloseBracket)))) (level_one (terminal.OpenBracket ∷ []) refl)
       (level_both rights.is_bound (is_both (is_one terminal.Comma) (is_both rights.is_bound (is_one terminal.CloseBracket))) bound_sees
       (level_both (is_one terminal.Comma) (is_both rights.is_bound (is_one terminal.CloseBracket)) (level_one (terminal.Comma ∷ []) refl)
@@ -109,18 +105,15 @@ module _ (src : Bytes) where
 
   -- the expression of a choice alone
   zero_is_short : short.short_expr (expr_is.Num (pos 0)) ≡ true
-  zero_is_short = and_of (short.has_literals (expr_is.Num (pos 0))) (nat_le (short.signs (expr_is.Num (pos 0)) level.Expression) SIGNS) (literal-num (pos 0)) (ap (λ (n : ℕ). nat_le n SIGNS) (signs-num (pos 0) level.Expression))
+  zero_is_short = and_of (short.has_literals (expr_is.Num (pos 0))) (nat_le (short.signs (expr_is.Num (pos 0)) level.Expression) SIGNS) (at-num Bool short.literal_step (pos 0)) (ap (λ (n : ℕ). nat_le n SIGNS) (signs-num (pos 0) level.Expression))
 
   right_is : (x : ExprTree × Option (Symbol × Choice)) → short.short_expr (rights.right_of x).expr ≡ short.short_expr x.0
   right_is (x, None) = refl
   right_is (x, Some y) = refl
 
   pub right_sees : (n : ℕ) → Sees (spelled src) (rights.is_right (grammar.is_paren n)) (λ r. Passes (short.short_expr r.expr))
-  right_sees n = either_sees (spelled src) (is_map rights.alone rights.is_choice) (is_map rights.right_of (is_both (grammar.is_expr_in (grammar.is_paren n)) (is_maybe (is_both (is_one terminal.Plus) rights.is_choice)))) (λ r. Passes (short.short_expr r.expr))
+  right_sees n = either_sees (spelled src) _ _ (λ r. Passes (short.short_expr r.expr))
       (map_sees (spelled src) rights.alone rights.is_choice Level (λ r. Passes (short.short_expr r.expr)) (λ z c d i. record { passed = λ b. zero_is_short; level = i }) choice_sees)
-      (map_sees (spelled src) rights.right_of (is_both (grammar.is_expr_in (grammar.is_paren n)) (is_maybe (is_both (is_one terminal.Plus) rights.is_choice))) (λ x. Passes (short.short_expr x.0)) (λ r. Passes (short.short_expr r.expr))
-      (λ x c d i. record { passed = λ b. right_is x ∙ i.passed b; level = i.level })
-      (both_sees (spelled src) (grammar.is_expr_in (grammar.is_paren n)) (is_maybe (is_both (is_one terminal.Plus) rights.is_choice)) (λ t. Passes (short.short_expr t)) Level (λ x. Passes (short.short_expr x.0))
-      (λ x c e d i j. record { passed = i.passed; level = j ∙ i.level }) (expr_sees src n)
-      (maybe_sees (spelled src) (is_both (is_one terminal.Plus) rights.is_choice) Level Level (λ c. refl) (λ y c d i. i)
-      (level_both (is_one terminal.Plus) rights.is_choice (level_one (terminal.Plus ∷ []) refl) choice_sees))))
+      (map_sees (spelled src) rights.right_of _ (λ x. Passes (short.short_expr x.0)) (λ r. Passes (short.short_expr r.expr)) (λ x c d i. record { passed = λ b. right_is x ∙ i.passed b; level = i.level })
+      (both_sees (spelled src) _ _ (λ t. Passes (short.short_expr t)) Level (λ x. Passes (short.short_expr x.0)) (λ x c e d i j. record { passed = i.passed; level = j ∙ i.level }) (expr_sees src n)
+      (maybe_sees (spelled src) _ Level Level (λ c. refl) (λ y c d i. i) (level_both (is_one terminal.Plus) rights.is_choice (level_one (terminal.Plus ∷ []) refl) choice_sees))))

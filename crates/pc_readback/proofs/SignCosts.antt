@@ -1,5 +1,5 @@
 -- The counted signs of the words of expressions: no fewer than those of their canonical texts, and within the limit no more than it.
-use Rattle.std.proofs.Common.{◌≡◌, ℕ, zero, suc, ◌+◌, ◌<◌, ◌≤◌, refl, ap, sym, ◌∙◌, arith, [], ◌∷◌, ◌++◌, append_assoc, Bool, true, false, cond, Some, None, Result, Ok, Err}
+use Rattle.std.proofs.Common.{◌≡◌, ℕ, zero, suc, ◌+◌, ◌<◌, ◌≤◌, refl, ap, sym, ◌∙◌, arith, [], ◌∷◌, ◌++◌, append_assoc, Bool, true, false, cond, Option, Some, None, Result, Ok, Err}
 use Rattle.std.specs.Prelude.{nat_lt}
 use Rattle.std.specs.List.{list_all}
 use Rattle.std.proofs.lemmas.Bool.{ltb-true}
@@ -57,17 +57,17 @@ most_signs n e d a zero x y f g h = let k = f (omega arith) in omega arith
 most_signs n e d a (suc b) x y f g h = g (omega arith)
 
 -- behind no keyword, a word of expressions raises the count of signs by its own
-pub signs_on : (c d : Counts) (w v : Text) → list_all (among of_expressions) w ≡ true → c.behind_keyword ≡ false → counts None c w v ≡ Ok d → CountsSigns c.signs d.signs (cost w v)
-signs_on c d [] v h b k = let f : c ≡ d = cc in let g = ap (λ (c : Counts). c.signs) f in record { sum = omega arith; most = λ l. absurd (omega arith) }
-signs_on c d (s ∷ w) v h b k =
+pub signs_on : (most : Option ℕ) (c d : Counts) (w v : Text) → list_all (among of_expressions) w ≡ true → c.behind_keyword ≡ false → counts most c w v ≡ Ok d → CountsSigns c.signs d.signs (cost w v)
+signs_on most c d [] v h b k = let f : c ≡ d = cc in let g = ap (λ (c : Counts). c.signs) f in record { sum = omega arith; most = λ l. absurd (omega arith) }
+signs_on most c d (s ∷ w) v h b k =
     let p = and_is (among of_expressions s) (list_all (among of_expressions) w) h in
-    by p.0 (λ e b k. signs_on e d w v p.1 b k) (counted None c s (w ++ v)) refl k
+    by p.0 (λ e b k. signs_on most e d w v p.1 b k) (counted most c s (w ++ v)) refl k
   where
-    by : among of_expressions s ≡ true → ((e : Counts) → e.behind_keyword ≡ false → counts None e w v ≡ Ok d → CountsSigns e.signs d.signs (cost w v)) →
-        (o : Result Counts ParseFault) → counted None c s (w ++ v) ≡ o → and_on o (λ e. counts None e w v) ≡ Ok d → CountsSigns c.signs d.signs (cost (s ∷ w) v)
+    by : among of_expressions s ≡ true → ((e : Counts) → e.behind_keyword ≡ false → counts most e w v ≡ Ok d → CountsSigns e.signs d.signs (cost w v)) →
+        (o : Result Counts ParseFault) → counted most c s (w ++ v) ≡ o → and_on o (λ e. counts most e w v) ≡ Ok d → CountsSigns c.signs d.signs (cost (s ∷ w) v)
     by p again (Err f) g k = absurd (cc)
     by p again (Ok e) g k =
-        let i = is_counted None c e s (w ++ v) g in
+        let i = is_counted most c e s (w ++ v) g in
         let one = step_signs c.signs e.signs (is_sign s.terminal false (w ++ v)) s.terminal p (ap (λ b. signs_after c.signs (is_sign s.terminal b (w ++ v)) s.terminal) (sym b) ∙ i.signs) in
         let rest = again e (i.behind ∙ parted of_expressions keywords refl (s ∷ []) p) k in
         let s1 = one.sum in let s2 = rest.sum in let m1 = one.most in let m2 = rest.most in

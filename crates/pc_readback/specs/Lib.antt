@@ -4,3 +4,5 @@ pub mod Matched
 pub mod CutTexts
 pub mod Bare
 pub mod ReadsBack
+pub mod MadeTrees
+pub mod MadeLaws

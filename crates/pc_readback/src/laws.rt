@@ -1,5 +1,6 @@
-//! The laws of canonical texts.
+//! The laws of canonical texts and of made sources.
 
+ghost use Rattle.pc_readback.specs.MadeLaws.{MadeSpells};
 ghost use Rattle.pc_readback.specs.CutTexts.{CanonicalTextsAreCut};
 ghost use Rattle.pc_readback.specs.ReadsBack.{ShowReadsBack, NothingElseReadsBack, SpelledAreShowable, TextsLeaveOutPlaces};
 
@@ -23,4 +24,9 @@ pub fn texts_leave_out_places()
 pub fn show_reads_back()
     ensures spelled { ShowReadsBack }
     ensures only { NothingElseReadsBack }
+{}
+
+/// Each made source spells a program.
+pub fn made_sources_spell()
+    ensures { MadeSpells }
 {}

@@ -1,8 +1,7 @@
 -- The trees of expressions, right sides and tests: names within the text, numbers in range, one to eight comparisons in a conjunction.
-use Rattle.std.proofs.Common.{◌≡◌, ℕ, zero, suc, ◌+◌, ◌<◌, ◌≤◌, ℤ, pos, negsuc, refl, sym, ◌∙◌, ap, arith, List, [], ◌∷◌, length, Bool, true, false, Option, Some, None}
+use Rattle.std.proofs.Common.{◌≡◌, ℕ, zero, suc, ◌+◌, ◌<◌, ◌≤◌, ℤ, pos, negsuc, refl, ◌∙◌, ap, arith, List, [], ◌∷◌, length, Bool, true, false, Option, Some, None, Ok}
 use Rattle.std.specs.Prelude.{◌&&◌, nat_le}
 use Rattle.std.specs.List.{list_all}
-use Rattle.pc_text.specs.declared.place.Place.{Place}
 use Rattle.pc_rows.specs.Linear.{in_range}
 use Rattle.pc_grammar.specs.declared.symbol.Symbol.{Symbol}
 use Rattle.pc_language.specs.declared.terminal.Terminal.{Terminal}
@@ -10,8 +9,7 @@ use Rattle.pc_language.specs.declared.terminal.Terminal.TheVariants as terminal
 use Rattle.pc_language.specs.declared.limits.TheConstants.{COMPARISONS}
 use Rattle.pc_language.specs.declared.choice.Bound.{Bound}
 use Rattle.pc_language.specs.declared.choice.Choice.{Choice}
-use Rattle.pc_grammar.specs.declared.tree.ExprTree.{ExprTree, fold-roll-ExprTree}
-use Rattle.pc_grammar.specs.declared.tree.ExprTree.TheOpen as expr_open
+use Rattle.pc_grammar.specs.declared.tree.ExprTree.{ExprTree}
 use Rattle.pc_grammar.specs.declared.tree.ExprTree.TheVariants as expr_is
 use Rattle.pc_grammar.specs.declared.tree.CompareTree.{CompareTree}
 use Rattle.pc_grammar.specs.Combinators.{Text, Lang, is_map, is_both, is_either, is_maybe, is_many}
@@ -19,54 +17,38 @@ use Rattle.pc_grammar.specs.Terminals.{the, is_one, is_one_of}
 use Rattle.pc_grammar.specs.Expressions as grammar
 use Rattle.pc_grammar.specs.Rights as rights
 use Rattle.pc_grammar.specs.Statements as stmts
-use Rattle.pc_grammar.specs.Limits.{of_expressions}
+use Rattle.pc_grammar.specs.declared.limits.Counts.{Counts}
+use Rattle.pc_grammar.specs.Limits.{of_expressions, counts}
 use Rattle.pc_syntax.specs.Trees.{fit_symbol, fit_expr_step, fit_expr, fit_compare, fit_all, fit_test, fit_bound, fit_choice, fit_right}
 use Rattle.pc_program.proofs.Results.{and_is, and_of, at_most}
 use Rattle.pc_syntax.proofs.SymbolFits.{fits}
-use Rattle.pc_syntax.proofs.Phrases.{Over, Good, Passes, one_passes, map_passes, pair, both_passes, either_passes, optional, maybe_passes, many_passes, dead_passes}
+use Rattle.pc_syntax.proofs.Trees.{at-num, at-name, at-neg, at-add, at-sub, at-mul}
+use Rattle.pc_syntax.proofs.Phrases.{Over, Passes, one_passes, map_passes, pair, both_passes, either_passes, optional, maybe_passes, many_passes, dead_passes}
 use Rattle.pc_syntax.proofs.PhraseSymbols.{all_over, ands, ands_on, ands-append, parted_by_ands, length-seconds}
 
 -- ---- expressions
 
-fit-num : (n : ℕ) (z : ℤ) → fit_expr n (expr_is.Num z) ≡ in_range z
-fit-num n z = ap (fit_expr n) (sym (expr_is.rolls-Num z)) ∙ fold-roll-ExprTree Bool (fit_expr_step n) (expr_open.Num z)
-
-fit-name : (n : ℕ) (s : Symbol) → fit_expr n (expr_is.Name s) ≡ fit_symbol n s
-fit-name n s = ap (fit_expr n) (sym (expr_is.rolls-Name s)) ∙ fold-roll-ExprTree Bool (fit_expr_step n) (expr_open.Name s)
-
-fit-neg : (n : ℕ) (a : ExprTree) (p : Place) → fit_expr n (expr_is.Neg a p) ≡ fit_expr n a
-fit-neg n a p = ap (fit_expr n) (sym (expr_is.rolls-Neg a p)) ∙ fold-roll-ExprTree Bool (fit_expr_step n) (expr_open.Neg a p)
-
-fit-add : (n : ℕ) (a b : ExprTree) (p : Place) → fit_expr n (expr_is.Add a b p) ≡ (fit_expr n a && fit_expr n b)
-fit-add n a b p = ap (fit_expr n) (sym (expr_is.rolls-Add a b p)) ∙ fold-roll-ExprTree Bool (fit_expr_step n) (expr_open.Add a b p)
-
-fit-sub : (n : ℕ) (a b : ExprTree) (p : Place) → fit_expr n (expr_is.Sub a b p) ≡ (fit_expr n a && fit_expr n b)
-fit-sub n a b p = ap (fit_expr n) (sym (expr_is.rolls-Sub a b p)) ∙ fold-roll-ExprTree Bool (fit_expr_step n) (expr_open.Sub a b p)
-
-fit-mul : (n : ℕ) (a b : ExprTree) (p : Place) → fit_expr n (expr_is.Mul a b p) ≡ (fit_expr n a && fit_expr n b)
-fit-mul n a b p = ap (fit_expr n) (sym (expr_is.rolls-Mul a b p)) ∙ fold-roll-ExprTree Bool (fit_expr_step n) (expr_open.Mul a b p)
-
 module _ (n : ℕ) where
   number_fits : (s : Symbol) → fits n s ≡ true → fit_expr n (grammar.number s) ≡ true
-  number_fits s h = fit-num n s.number ∙ (and_is (fit_symbol n s) (in_range s.number) h).1
+  number_fits s h = at-num Bool (fit_expr_step n) s.number ∙ (and_is (fit_symbol n s) (in_range s.number) h).1
 
   name_fits : (s : Symbol) → fits n s ≡ true → fit_expr n (grammar.name s) ≡ true
-  name_fits s h = fit-name n s ∙ (and_is (fit_symbol n s) (in_range s.number) h).0
+  name_fits s h = at-name Bool (fit_expr_step n) s ∙ (and_is (fit_symbol n s) (in_range s.number) h).0
 
   signed_fits : (x : Option Symbol × ExprTree) → pair (optional (fits n)) (fit_expr n) x ≡ true → fit_expr n (grammar.signed x) ≡ true
   signed_fits (None, x) h = h
-  signed_fits (Some s, x) h = fit-neg n x s.place ∙ (and_is (fits n s) (fit_expr n x) h).1
+  signed_fits (Some s, x) h = at-neg Bool (fit_expr_step n) x s.place ∙ (and_is (fits n s) (fit_expr n x) h).1
 
   products_fit : (x : ExprTree) (ys : List (Symbol × ExprTree)) → fit_expr n x ≡ true → list_all (pair (fits n) (fit_expr n)) ys ≡ true → fit_expr n (grammar.products x ys) ≡ true
   products_fit x [] h k = h
   products_fit x (y ∷ ys) h k =
       let p = and_is (pair (fits n) (fit_expr n) y) (list_all (pair (fits n) (fit_expr n)) ys) k in
       let q = and_is (fits n y.0) (fit_expr n y.1) p.0 in
-      products_fit (grammar.product x y) ys (fit-mul n x y.1 y.0.place ∙ and_of (fit_expr n x) (fit_expr n y.1) h q.1) p.1
+      products_fit (grammar.product x y) ys (at-mul Bool (fit_expr_step n) x y.1 y.0.place ∙ and_of (fit_expr n x) (fit_expr n y.1) h q.1) p.1
 
   sum_fits : (b : Bool) (x : ExprTree) (y : Symbol × ExprTree) → fit_expr n x ≡ true → fit_expr n y.1 ≡ true → fit_expr n (grammar.sum_if b x y) ≡ true
-  sum_fits true x y h k = fit-sub n x y.1 y.0.place ∙ and_of (fit_expr n x) (fit_expr n y.1) h k
-  sum_fits false x y h k = fit-add n x y.1 y.0.place ∙ and_of (fit_expr n x) (fit_expr n y.1) h k
+  sum_fits true x y h k = at-sub Bool (fit_expr_step n) x y.1 y.0.place ∙ and_of (fit_expr n x) (fit_expr n y.1) h k
+  sum_fits false x y h k = at-add Bool (fit_expr_step n) x y.1 y.0.place ∙ and_of (fit_expr n x) (fit_expr n y.1) h k
 
   sums_fit : (x : ExprTree) (ys : List (Symbol × ExprTree)) → fit_expr n x ≡ true → list_all (pair (fits n) (fit_expr n)) ys ≡ true → fit_expr n (grammar.sums x ys) ≡ true
   sums_fit x [] h k = h
@@ -159,7 +141,7 @@ module _ (n : ℕ) where
 
   alone_fits : (c : Choice) → of_choice c ≡ true → fit_right n (rights.alone c) ≡ true
   unfolding of_choice
-  alone_fits c h = and_of (fit_expr n (expr_is.Num (pos 0))) (fit_choice (Some c)) (fit-num n (pos 0)) h
+  alone_fits c h = and_of (fit_expr n (expr_is.Num (pos 0))) (fit_choice (Some c)) (at-num Bool (fit_expr_step n) (pos 0)) h
 
   right_fits : (x : ExprTree × Option (Symbol × Choice)) → pair (fit_expr n) (optional (pair (fits n) of_choice)) x ≡ true → fit_right n (rights.right_of x) ≡ true
   unfolding of_choice
@@ -201,19 +183,20 @@ module _ (n : ℕ) (P : Lang ExprTree) (o : Over of_expressions P) (p : Passes n
       (both_passes n (grammar.is_expr_in P) (is_both (is_one_of stmts.operators) (grammar.is_expr_in P)) (fit_expr n) (pair (fits n) (fit_expr n)) (expr_passes n P p)
       (both_passes n (is_one_of stmts.operators) (grammar.is_expr_in P) (fits n) (fit_expr n) (one_passes n stmts.operators) (expr_passes n P p)))
 
-  few : (cs : List CompareTree) (w v : Text) → stmts.is_all P cs w → Good n w v → length cs ≤ COMPARISONS
-  few cs w v ((x, ys), e, (u, u', q, l, m)) good =
-      let k = ands_on good.most good.before good.after w v (all_over P o cs w ((x, ys), e, (u, u', q, l, m))) good.limits in
+  few : (cs : List CompareTree) (w v : Text) → stmts.is_all P cs w → (most : Option ℕ) (c d : Counts) → counts most c w v ≡ Ok d → length cs ≤ COMPARISONS
+  few cs w v ((x, ys), e, (u, u', q, l, m)) most c d limits =
+      let k = ands_on most c d w v (all_over P o cs w ((x, ys), e, (u, u', q, l, m))) limits in
       let s = k.sum in
       let m1 = k.most in
       let h = parted_by_ands (stmts.is_compare P) ys u' m in
       let a = ap ands q ∙ ands-append u u' in
       let b = ap length e in
       let b2 = length-seconds ys in
-      few_by (ands w) good.before.ands good.after.ands (length ys) (length cs) s m1 (omega arith) (omega arith)
+      few_by (ands w) c.ands d.ands (length ys) (length cs) s m1 (omega arith) (omega arith)
 
   pub all_passes : Passes n (stmts.is_all P) (fit_all n)
-  all_passes cs w v l good = by cs (separated_passes n terminal.And (stmts.is_compare P) (fit_compare n) compare_passes cs w v l good) (few cs w v l good) (some l)
+  all_passes cs w v l good most c d limits =
+      by cs (separated_passes n terminal.And (stmts.is_compare P) (fit_compare n) compare_passes cs w v l good most c d limits) (few cs w v l most c d limits) (some l)
     where
       some : stmts.is_all P cs w → 0 < length cs
       some ((x, ys), e, m) = let k = ap length e in omega arith

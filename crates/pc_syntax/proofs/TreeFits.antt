@@ -1,19 +1,14 @@
 -- The trees of statements and programs fit the walk.
-use Rattle.std.proofs.Common.{◌≡◌, ℕ, zero, suc, refl, sym, ◌∙◌, ap, List, [], ◌∷◌, ◌++◌, Bool, true, Option, Some, None}
+use Rattle.std.proofs.Common.{◌≡◌, ℕ, zero, suc, refl, ◌∙◌, List, [], ◌∷◌, ◌++◌, Bool, true, Option, Some, None}
 use Rattle.std.specs.Prelude.{◌&&◌}
 use Rattle.std.specs.List.{list_all}
-use Rattle.pc_text.specs.declared.place.Place.{Place}
 use Rattle.pc_rows.specs.Linear.{in_range}
 use Rattle.pc_grammar.specs.declared.symbol.Symbol.{Symbol}
 use Rattle.pc_language.specs.declared.terminal.Terminal.{Terminal}
 use Rattle.pc_language.specs.declared.terminal.Terminal.TheVariants as terminal
 use Rattle.pc_grammar.specs.declared.tree.ExprTree.{ExprTree}
 use Rattle.pc_grammar.specs.declared.tree.CompareTree.{CompareTree}
-use Rattle.pc_grammar.specs.declared.tree.TestTree.{TestTree}
-use Rattle.pc_grammar.specs.declared.tree.RightTree.{RightTree}
-use Rattle.pc_grammar.specs.declared.tree.StmtTree.{StmtTree, fold-roll-StmtTree}
-use Rattle.pc_grammar.specs.declared.tree.StmtTree.TheOpen as stmt_open
-use Rattle.pc_grammar.specs.declared.tree.StmtTree.TheVariants as stmt_is
+use Rattle.pc_grammar.specs.declared.tree.StmtTree.{StmtTree}
 use Rattle.pc_grammar.specs.declared.tree.ProgramTree.{ProgramTree}
 use Rattle.pc_grammar.specs.Combinators.{Text, Lang, is_map, is_both, is_either, is_maybe, is_many}
 use Rattle.pc_grammar.specs.Terminals.{is_one}
@@ -26,26 +21,12 @@ use Rattle.pc_grammar.specs.Limits.{of_expressions, start, Within}
 use Rattle.pc_syntax.specs.Trees.{fit_symbol, fit_expr, fit_each, fit_all, fit_test, fit_right, fit_stmt_step, fit_stmt, fit_stmts, fit_tree}
 use Rattle.pc_program.proofs.Results.{and_is, and_of}
 use Rattle.pc_syntax.proofs.SymbolFits.{fits}
+use Rattle.pc_syntax.proofs.Trees.{at-set, at-if, at-while, at-assert, at-assume}
 use Rattle.pc_syntax.proofs.Phrases.{Over, Passes, one_passes, map_passes, pair, both_passes, either_passes, optional, maybe_passes, many_passes, dead_passes}
 use Rattle.pc_syntax.proofs.PhraseSymbols.{paren_over}
 use Rattle.pc_syntax.proofs.ExprFits.{inner_fits, paren_passes, right_passes, separated_passes, all_passes, test_passes}
 
 -- ---- statements
-
-fit-set : (n : ℕ) (s : Symbol) (r : RightTree) → fit_stmt n (stmt_is.Set s r) ≡ (fit_symbol n s && fit_right n r)
-fit-set n s r = ap (fit_stmt n) (sym (stmt_is.rolls-Set s r)) ∙ fold-roll-StmtTree Bool (fit_stmt_step n) (stmt_open.Set s r)
-
-fit-if : (n : ℕ) (p : Place) (t : TestTree) (xs ys : List StmtTree) → fit_stmt n (stmt_is.If p t xs ys) ≡ (fit_test n t && (fit_stmts n xs && fit_stmts n ys))
-fit-if n p t xs ys = ap (fit_stmt n) (sym (stmt_is.rolls-If p t xs ys)) ∙ fold-roll-StmtTree Bool (fit_stmt_step n) (stmt_open.If p t xs ys)
-
-fit-while : (n : ℕ) (p : Place) (t : TestTree) (cs : List CompareTree) (xs : List StmtTree) → fit_stmt n (stmt_is.While p t cs xs) ≡ (fit_test n t && (fit_each n cs && fit_stmts n xs))
-fit-while n p t cs xs = ap (fit_stmt n) (sym (stmt_is.rolls-While p t cs xs)) ∙ fold-roll-StmtTree Bool (fit_stmt_step n) (stmt_open.While p t cs xs)
-
-fit-assert : (n : ℕ) (p : Place) (cs : List CompareTree) → fit_stmt n (stmt_is.Assert p cs) ≡ fit_all n cs
-fit-assert n p cs = ap (fit_stmt n) (sym (stmt_is.rolls-Assert p cs)) ∙ fold-roll-StmtTree Bool (fit_stmt_step n) (stmt_open.Assert p cs)
-
-fit-assume : (n : ℕ) (p : Place) (cs : List CompareTree) → fit_stmt n (stmt_is.Assume p cs) ≡ fit_all n cs
-fit-assume n p cs = ap (fit_stmt n) (sym (stmt_is.rolls-Assume p cs)) ∙ fold-roll-StmtTree Bool (fit_stmt_step n) (stmt_open.Assume p cs)
 
 enclosed_passes : {A : Type 0} (n : ℕ) (L : Lang A) (F : A → Bool) → Passes n L F → Passes n (stmts.is_enclosed L) F
 enclosed_passes n L F f = map_passes n grammar.inner (is_both (is_one terminal.OpenParen) (is_both L (is_one terminal.CloseParen))) (pair (fits n) (pair F (fits n))) F (inner_fits n F)
@@ -77,7 +58,7 @@ module _ (n : ℕ) (P : Lang ExprTree) (o : Over of_expressions P) (p : Passes n
       let a = and_is (fits n x.0) (pair (fits n) (pair (fit_right n) (fits n)) x.1) h in
       let b = and_is (fits n x.1.0) (pair (fit_right n) (fits n) x.1.1) a.1 in
       let c = and_is (fit_right n x.1.1.0) (fits n x.1.1.1) b.1 in
-      fit-set n x.0 x.1.1.0 ∙ and_of (fit_symbol n x.0) (fit_right n x.1.1.0) (and_is (fit_symbol n x.0) (in_range x.0.number) a.0).0 c.0)
+      at-set Bool (fit_stmt_step n) x.0 x.1.1.0 ∙ and_of (fit_symbol n x.0) (fit_right n x.1.1.0) (and_is (fit_symbol n x.0) (in_range x.0.number) a.0).0 c.0)
       (both_passes n (is_one terminal.Name) (is_both (is_one terminal.Assign) (is_both (rights.is_right P) (is_one terminal.Semicolon))) (fits n) (pair (fits n) (pair (fit_right n) (fits n))) (one_passes n (terminal.Name ∷ []))
       (both_passes n (is_one terminal.Assign) (is_both (rights.is_right P) (is_one terminal.Semicolon)) (fits n) (pair (fit_right n) (fits n)) (one_passes n (terminal.Assign ∷ []))
       (both_passes n (rights.is_right P) (is_one terminal.Semicolon) (fit_right n) (fits n) (right_passes n P p) (one_passes n (terminal.Semicolon ∷ [])))))
@@ -96,7 +77,7 @@ module _ (n : ℕ) (P : Lang ExprTree) (o : Over of_expressions P) (p : Passes n
         (pair (fits n) (pair (fit_test n) (pair (fit_stmts n) (fit_stmts n)))) (fit_stmt n)
         (λ x h.
         let a = and_is (fits n x.0) (pair (fit_test n) (pair (fit_stmts n) (fit_stmts n)) x.1) h in
-        fit-if n x.0.place x.1.0 x.1.1.0 x.1.1.1 ∙ a.1)
+        at-if Bool (fit_stmt_step n) x.0.place x.1.0 x.1.1.0 x.1.1.1 ∙ a.1)
         (both_passes n (is_one terminal.If) (is_both (stmts.is_enclosed (stmts.is_test P)) (is_both B (stmts.is_after terminal.Else B))) (fits n) (pair (fit_test n) (pair (fit_stmts n) (fit_stmts n))) (one_passes n (terminal.If ∷ []))
         (both_passes n (stmts.is_enclosed (stmts.is_test P)) (is_both B (stmts.is_after terminal.Else B)) (fit_test n) (pair (fit_stmts n) (fit_stmts n)) (enclosed_passes n (stmts.is_test P) (fit_test n) (test_passes n P o p))
         (both_passes n B (stmts.is_after terminal.Else B) (fit_stmts n) (fit_stmts n) b (after_passes n terminal.Else B (fit_stmts n) (fit_stmts n) refl (λ xs h. h) b))))
@@ -106,7 +87,7 @@ module _ (n : ℕ) (P : Lang ExprTree) (o : Over of_expressions P) (p : Passes n
         (pair (fits n) (pair (fit_test n) (pair (fit_each n) (fit_stmts n)))) (fit_stmt n)
         (λ x h.
         let a = and_is (fits n x.0) (pair (fit_test n) (pair (fit_each n) (fit_stmts n)) x.1) h in
-        fit-while n x.0.place x.1.0 x.1.1.0 x.1.1.1 ∙ a.1)
+        at-while Bool (fit_stmt_step n) x.0.place x.1.0 x.1.1.0 x.1.1.1 ∙ a.1)
         (both_passes n (is_one terminal.While) (is_both (stmts.is_enclosed (stmts.is_test P)) (is_both (stmts.is_tried P) B)) (fits n) (pair (fit_test n) (pair (fit_each n) (fit_stmts n))) (one_passes n (terminal.While ∷ []))
         (both_passes n (stmts.is_enclosed (stmts.is_test P)) (is_both (stmts.is_tried P) B) (fit_test n) (pair (fit_each n) (fit_stmts n)) (enclosed_passes n (stmts.is_test P) (fit_test n) (test_passes n P o p))
         (both_passes n (stmts.is_tried P) B (fit_each n) (fit_stmts n)
@@ -117,10 +98,10 @@ module _ (n : ℕ) (P : Lang ExprTree) (o : Over of_expressions P) (p : Passes n
         (either_passes n (stmts.is_if_stmt P B) (is_either (stmts.is_while_stmt P B) (is_either (stmts.is_assert_stmt P) (stmts.is_assume_stmt P))) (fit_stmt n) if_passes
         (either_passes n (stmts.is_while_stmt P B) (is_either (stmts.is_assert_stmt P) (stmts.is_assume_stmt P)) (fit_stmt n) while_passes
         (either_passes n (stmts.is_assert_stmt P) (stmts.is_assume_stmt P) (fit_stmt n)
-        (claim_passes terminal.Assert stmts.assert_of (λ x h. fit-assert n x.0.place x.1.0 ∙ h)) (claim_passes terminal.Assume stmts.assume_of (λ x h. fit-assume n x.0.place x.1.0 ∙ h)))))
+        (claim_passes terminal.Assert stmts.assert_of (λ x h. at-assert Bool (fit_stmt_step n) x.0.place x.1.0 ∙ h)) (claim_passes terminal.Assume stmts.assume_of (λ x h. at-assume Bool (fit_stmt_step n) x.0.place x.1.0 ∙ h)))))
 
     stmts_pass : Passes n (stmts.is_stmts_in P B) (fit_stmts n)
-    stmts_pass xs w v l good = all_fit n xs (many_passes n (stmts.is_stmt P B) (fit_stmt n) stmt_passes xs w v l good)
+    stmts_pass xs w v l good most c d limits = all_fit n xs (many_passes n (stmts.is_stmt P B) (fit_stmt n) stmt_passes xs w v l good most c d limits)
 
 block_passes : (n m : ℕ) → Passes n (stmts.is_block m) (fit_stmts n)
 block_passes n zero = dead_passes n (fit_stmts n)
@@ -140,7 +121,7 @@ module _ (n : ℕ) where
       and_of (fit_symbol n s) (list_all (fit_symbol n) xs) (and_is (fit_symbol n s) (in_range s.number) k.0).0 (symbols_pass xs k.1)
 
   names_pass : Passes n programs.is_names (list_all (fit_symbol n))
-  names_pass xs w v l good = symbols_pass xs (separated_passes n terminal.Comma (is_one terminal.Name) (fits n) (one_passes n (terminal.Name ∷ [])) xs w v l good)
+  names_pass xs w v l good most c d limits = symbols_pass xs (separated_passes n terminal.Comma (is_one terminal.Name) (fits n) (one_passes n (terminal.Name ∷ [])) xs w v l good most c d limits)
 
   given_fits : (o : Option (List Symbol)) → optional (list_all (fit_symbol n)) o ≡ true → list_all (fit_symbol n) (programs.given o) ≡ true
   given_fits None h = refl
@@ -191,4 +172,4 @@ module _ (n : ℕ) where
 
 -- the parse tree of symbols that fit
 pub derived_fits : (n : ℕ) (t : ProgramTree) (w : Text) → Derives programs.programs t w → Within programs.programs.most w [] → list_all (fits n) w ≡ true → fit_tree n t ≡ true
-derived_fits n t w (m, l) (d, k) h = program_passes n m t w [] l (record { all = h; most = programs.programs.most; before = start; after = d; limits = k })
+derived_fits n t w (m, l) (d, k) h = program_passes n m t w [] l h programs.programs.most start d k

@@ -1,15 +1,62 @@
--- Induction over parse trees.
-use Rattle.std.proofs.Common.{◌≡◌, ℤ, subst, List, [], ◌∷◌, map}
+-- Folds and induction over parse trees.
+use Rattle.std.proofs.Common.{◌≡◌, ℤ, ap, sym, ◌∙◌, subst, List, [], ◌∷◌, map}
 use Rattle.std.specs.List.{AllByRecursion}
 use Rattle.pc_text.specs.declared.place.Place.{Place}
 use Rattle.pc_grammar.specs.declared.symbol.Symbol.{Symbol}
-use Rattle.pc_grammar.specs.declared.tree.ExprTree.{ExprTree, ExprTree-F, ind-ExprTree, roll-ExprTree, map-ExprTree}
+use Rattle.pc_grammar.specs.declared.tree.ExprTree.{ExprTree, ExprTree-F, fold-ExprTree, fold-roll-ExprTree, ind-ExprTree, roll-ExprTree, map-ExprTree}
+use Rattle.pc_grammar.specs.declared.tree.ExprTree.TheVariants as expr_is
 use Rattle.pc_grammar.specs.declared.tree.ExprTree.TheOpen as expr
 use Rattle.pc_grammar.specs.declared.tree.CompareTree.{CompareTree}
 use Rattle.pc_grammar.specs.declared.tree.TestTree.{TestTree}
 use Rattle.pc_grammar.specs.declared.tree.RightTree.{RightTree}
-use Rattle.pc_grammar.specs.declared.tree.StmtTree.{StmtTree, StmtTree-F, ind-StmtTree, roll-StmtTree, map-StmtTree}
+use Rattle.pc_grammar.specs.declared.tree.StmtTree.{StmtTree, StmtTree-F, fold-StmtTree, fold-roll-StmtTree, ind-StmtTree, roll-StmtTree, map-StmtTree}
+use Rattle.pc_grammar.specs.declared.tree.StmtTree.TheVariants as stmt_is
 use Rattle.pc_grammar.specs.declared.tree.StmtTree.TheOpen as stmt
+
+-- ---- a fold at each kind of tree
+
+module _ (A : Type 0) (step : ExprTree-F A → A) where
+  abbrev expr_worth : ExprTree → A
+  expr_worth t = fold-ExprTree A step t
+
+  pub at-num : (z : ℤ) → expr_worth (expr_is.Num z) ≡ step (expr.Num z)
+  at-num z = ap expr_worth (sym (expr_is.rolls-Num z)) ∙ fold-roll-ExprTree A step (expr.Num z)
+
+  pub at-name : (s : Symbol) → expr_worth (expr_is.Name s) ≡ step (expr.Name s)
+  at-name s = ap expr_worth (sym (expr_is.rolls-Name s)) ∙ fold-roll-ExprTree A step (expr.Name s)
+
+  pub at-neg : (a : ExprTree) (p : Place) → expr_worth (expr_is.Neg a p) ≡ step (expr.Neg (expr_worth a) p)
+  at-neg a p = ap expr_worth (sym (expr_is.rolls-Neg a p)) ∙ fold-roll-ExprTree A step (expr.Neg a p)
+
+  pub at-add : (a b : ExprTree) (p : Place) → expr_worth (expr_is.Add a b p) ≡ step (expr.Add (expr_worth a) (expr_worth b) p)
+  at-add a b p = ap expr_worth (sym (expr_is.rolls-Add a b p)) ∙ fold-roll-ExprTree A step (expr.Add a b p)
+
+  pub at-sub : (a b : ExprTree) (p : Place) → expr_worth (expr_is.Sub a b p) ≡ step (expr.Sub (expr_worth a) (expr_worth b) p)
+  at-sub a b p = ap expr_worth (sym (expr_is.rolls-Sub a b p)) ∙ fold-roll-ExprTree A step (expr.Sub a b p)
+
+  pub at-mul : (a b : ExprTree) (p : Place) → expr_worth (expr_is.Mul a b p) ≡ step (expr.Mul (expr_worth a) (expr_worth b) p)
+  at-mul a b p = ap expr_worth (sym (expr_is.rolls-Mul a b p)) ∙ fold-roll-ExprTree A step (expr.Mul a b p)
+
+module _ (A : Type 0) (step : StmtTree-F A → A) where
+  abbrev stmt_worth : StmtTree → A
+  stmt_worth t = fold-StmtTree A step t
+
+  pub at-set : (s : Symbol) (r : RightTree) → stmt_worth (stmt_is.Set s r) ≡ step (stmt.Set s r)
+  at-set s r = ap stmt_worth (sym (stmt_is.rolls-Set s r)) ∙ fold-roll-StmtTree A step (stmt.Set s r)
+
+  pub at-if : (p : Place) (t : TestTree) (xs ys : List StmtTree) → stmt_worth (stmt_is.If p t xs ys) ≡ step (stmt.If p t (map stmt_worth xs) (map stmt_worth ys))
+  at-if p t xs ys = ap stmt_worth (sym (stmt_is.rolls-If p t xs ys)) ∙ fold-roll-StmtTree A step (stmt.If p t xs ys)
+
+  pub at-while : (p : Place) (t : TestTree) (cs : List CompareTree) (xs : List StmtTree) → stmt_worth (stmt_is.While p t cs xs) ≡ step (stmt.While p t cs (map stmt_worth xs))
+  at-while p t cs xs = ap stmt_worth (sym (stmt_is.rolls-While p t cs xs)) ∙ fold-roll-StmtTree A step (stmt.While p t cs xs)
+
+  pub at-assert : (p : Place) (cs : List CompareTree) → stmt_worth (stmt_is.Assert p cs) ≡ step (stmt.Assert p cs)
+  at-assert p cs = ap stmt_worth (sym (stmt_is.rolls-Assert p cs)) ∙ fold-roll-StmtTree A step (stmt.Assert p cs)
+
+  pub at-assume : (p : Place) (cs : List CompareTree) → stmt_worth (stmt_is.Assume p cs) ≡ step (stmt.Assume p cs)
+  at-assume p cs = ap stmt_worth (sym (stmt_is.rolls-Assume p cs)) ∙ fold-roll-StmtTree A step (stmt.Assume p cs)
+
+-- ---- induction
 
 module _ (P : ExprTree → Type 0)
     (num : (n : ℤ) → P (roll-ExprTree (expr.Num n)))

@@ -17,8 +17,8 @@ use Rattle.pc_program.proofs.Folds.{fold-num, fold-name, fold-add, fold-set, fol
 use Rattle.pc_program.proofs.Results.{and_of, at_most}
 use Rattle.pc_readback.specs.Bare.{nowhere}
 use Rattle.pc_gen.specs.declared.made.TheConstants.{LOOPS}
-use Rattle.pc_made.specs.Trees.{names, parameter, counter, number, sum as sum_of, compared, below_ten, set_counter, bounded, counting, loop, loops}
-use Rattle.pc_made.proofs.Lists.{each_and}
+use Rattle.pc_readback.specs.MadeTrees.{names, parameter, counter, number, sum as sum_of, compared, below_ten, set_counter, bounded, counting, loop, loops}
+use Rattle.pc_readback.proofs.MadeLists.{each_and}
 
 -- ---- the row of the K-th assertion
 

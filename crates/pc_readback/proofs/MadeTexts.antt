@@ -11,7 +11,7 @@ use Rattle.pc_show.specs.Canonical.{lines, stmt_pieces, stmts_pieces, program_te
 use Rattle.pc_show.proofs.Laid.{num_laid, name_laid, add_laid, set_laid, while_laid, assert_laid}
 use Rattle.pc_gen.specs.Pieces.{counted}
 use Rattle.pc_gen.specs.Made.{loop_text, loops_text, made}
-use Rattle.pc_made.specs.Trees.{names, loop, loops}
+use Rattle.pc_readback.specs.MadeTrees.{names, loop, loops}
 
 -- ---- the numbers that stand in every loop
 

@@ -6,11 +6,11 @@ use Rattle.pc_syntax.specs.Spelling.{Spells}
 use Rattle.pc_readback.proofs.ReadBack.{show_reads_back}
 use Rattle.pc_readback.specs.Bare.{nowhere}
 use Rattle.pc_gen.specs.declared.made.TheConstants.{LOOPS}
-use Rattle.pc_made.specs.Trees.{names, loops}
-use Rattle.pc_made.specs.Laws.{MadeSpells}
-use Rattle.pc_made.proofs.Texts.{made_written}
-use Rattle.pc_made.proofs.Sanity.{made_sane}
-use Rattle.pc_made.proofs.Shown.{made_showable}
+use Rattle.pc_readback.specs.MadeTrees.{names, loops}
+use Rattle.pc_readback.specs.MadeLaws.{MadeSpells}
+use Rattle.pc_readback.proofs.MadeTexts.{made_written}
+use Rattle.pc_readback.proofs.MadeSanity.{made_sane}
+use Rattle.pc_readback.proofs.MadeShown.{made_showable}
 
 -- the program of so many loops
 abbrev program : (n : ℕ) → n ≤ LOOPS → Program

@@ -15,9 +15,9 @@ use Rattle.pc_show.proofs.Laid.{num_laid, name_laid, add_laid}
 use Rattle.pc_readback.specs.Showable.{is_name, has_literals, signs_in, signs_of, shown_expr, shown_step, shown_stmt, shown_stmts, deepest, nesting, nesting_of, is_showable}
 use Rattle.pc_readback.specs.Bare.{nowhere}
 use Rattle.pc_gen.specs.declared.made.TheConstants.{LOOPS}
-use Rattle.pc_made.specs.Trees.{names, parameter, counter, number, sum, below_ten, compared, set_counter, bounded, counting, loop, loops}
-use Rattle.pc_made.proofs.Lists.{each_and}
-use Rattle.pc_made.proofs.Sanity.{small}
+use Rattle.pc_readback.specs.MadeTrees.{names, parameter, counter, number, sum, below_ten, compared, set_counter, bounded, counting, loop, loops}
+use Rattle.pc_readback.proofs.MadeLists.{each_and}
+use Rattle.pc_readback.proofs.MadeSanity.{small}
 
 are_names : list_all is_name names.names ≡ true
 unfolding class is_keyword

@@ -1,5 +1,0 @@
-mod Lists
-mod Texts
-mod Sanity
-mod Shown
-pub mod Spelled
