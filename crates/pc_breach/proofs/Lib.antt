@@ -1,0 +1,4 @@
+pub mod Stepping
+pub mod Evaluating
+pub mod Followed
+pub mod Settling

@@ -1,0 +1,4 @@
+pub mod Entry
+pub mod Following
+pub mod Graphs
+pub mod Answers
