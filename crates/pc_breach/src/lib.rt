@@ -5,7 +5,9 @@ mod answer;
 mod breaking;
 mod entry;
 mod following;
+mod laws;
 mod step;
 
 pub use answer::Breach;
 pub use breaking::breach;
+pub use laws::{answers_are_meant, runs_are_meant};
