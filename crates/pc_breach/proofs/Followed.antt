@@ -66,13 +66,6 @@ module _ (edges : List Arc) (a : PointRows) (n m p : ℕ) (r : Linear) (so_far g
   opened : so_far ++ after_step (followed edges a n) (step_from edges a p r) ≡ goal
   opened = ap (λ (k : ℕ). so_far ++ followed edges a k p r) (sym left) ∙ h
 
-  pub step_none : step_from edges a p r ≡ None → so_far ≡ goal
-  step_none is = sym (nothing so_far) ∙ sym (ap (λ (z : Option Step). so_far ++ after_step (followed edges a n) z) is) ∙ opened
-    where
-      nothing : (xs : List ℤ) → xs ++ [] ≡ xs
-      nothing [] = refl
-      nothing (x ∷ xs) = ap (λ (z : List ℤ). x ∷ z) (nothing xs)
-
   pub step_on : (choice : Option ℤ) (to : ℕ) (row : Option Linear) (new : List ℤ) → step_from edges a p r ≡ Some (record { choice = choice; to = to; row = row }) →
       new ≡ so_far ++ option_to_list choice → new ++ after_row (followed edges a n to) row ≡ goal
   step_on choice to row new is pushed =

@@ -87,8 +87,11 @@ onward out e at (Enter n) t z free fit closed has stands bad =
 onward out e at (Test own) t z free fit closed has stands bad =
     inl (t, (sides out e at stands, subst (MeetsAll t) (sym free) tt, refl), bad)
 onward out e at (Set x f lo hi) t z free fit closed has stands bad =
-    inl (slice_set t x (value f t +ℤ clamped (end_of lo) (end_of hi) (end_for (coefficient z x) (end_of lo) (end_of hi))), (end_for (coefficient z x) (end_of lo) (end_of hi), refl, refl),
-         end_breaks z f x (end_of lo) (end_of hi) t has fit.1.ordered closed.0 closed.1 bad)
+    inl (
+      slice_set t x (value f t +ℤ clamped (end_of lo) (end_of hi) (end_for (coefficient z x) (end_of lo) (end_of hi))),
+      (end_for (coefficient z x) (end_of lo) (end_of hi), refl, refl),
+      end_breaks z f x (end_of lo) (end_of hi) t has fit.1.ordered closed.0 closed.1 bad,
+    )
 onward out e at (Check own) t z free fit closed has stands bad = by (all_or_not own t)
   where
     by : MeetsAll t own ⊎ (MeetsAll t own → ⊥) → Onward out e at (Check own) t z

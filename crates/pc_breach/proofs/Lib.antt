@@ -6,3 +6,5 @@ pub mod Same
 pub mod Ends
 pub mod Going
 pub mod Meaning
+pub mod Seeking
+pub mod Texts

@@ -93,8 +93,9 @@ runs_are_meant p s str closed entry =
         let before = b.3 in
         let more = b.4 in
         let e = b.7.0 in
-        let v = (choices_drive p s str entry).breaks b.0 b.1 b.2 before b.5 e b.7.1 b.7.2 b.7.3 in
-        (v.0,
-         ap (λ (cs : List ℤ). run_of p s cs) (b.6 ∙ sym (append_assoc before (pos 0 ∷ []) more))
-         ∙ run_append (before ++ (pos 0 ∷ [])) more (Going p.body (started p s))
-         ∙ ap (λ (o : Outcome). run o more) v.1 ∙ stays v.0 more)
+        let v = (choices_drive p s str entry).breaks b.0 b.1 b.2 before b.5 e b.7.1 b.7.2 b.7.3 in (
+          v.0,
+          ap (λ (cs : List ℤ). run_of p s cs) (b.6 ∙ sym (append_assoc before (pos 0 ∷ []) more))
+              ∙ run_append (before ++ (pos 0 ∷ [])) more (Going p.body (started p s))
+              ∙ ap (λ (o : Outcome). run o more) v.1 ∙ stays v.0 more,
+        )
