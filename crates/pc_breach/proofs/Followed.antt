@@ -1,5 +1,5 @@
 -- The steps by which a row is followed, one after the other.
-use Rattle.std.proofs.Common.{◌≡◌, ◌∙◌, ◌==◌, ℕ, zero, suc, ◌+◌, ◌-◌, ◌<◌, ℤ, List, [], ◌∷◌, ◌++◌, length, Bool, true, false, cond, refl, sym, ap, subst, arith, inl, inr, Option, Some, None, append_assoc}
+use Rattle.std.proofs.Common.{◌≡◌, ◌∙◌, ◌==◌, ℕ, zero, suc, ◌<◌, ℤ, List, [], ◌∷◌, ◌++◌, length, Bool, true, false, cond, sym, ap, subst, arith, inl, inr, Option, Some, append_assoc}
 use Rattle.std.specs.Prelude.{◌⊎◌, option_to_list}
 use Rattle.std.specs.List.{AllByRecursion as Each}
 use Rattle.std.proofs.lemmas.Bool.Decides.{eqb_tells}
@@ -12,10 +12,10 @@ use Rattle.pc_flow.specs.Flow.{Flow}
 use Rattle.pc_flow.specs.Incidence.{leaving}
 use Rattle.pc_flow.specs.Shape.{NoHeads, LeadsUp, IsGraph}
 use Rattle.pc_flow.proofs.Lists.{each_more}
-use Rattle.pc_lower.specs.Annotation.{no_rows, is_head}
+use Rattle.pc_lower.specs.Annotation.{no_rows}
 use Rattle.pc_lower.specs.Course.{edges_carries}
-use Rattle.pc_lower.specs.Need.{need, demanded}
-use Rattle.pc_lower.specs.Operations.{Operation, Fits, Joins, carries, edge_operations, edges_operations, point_operations, operations_below, operations}
+use Rattle.pc_lower.specs.Need.{demanded}
+use Rattle.pc_lower.specs.Operations.{Fits, Joins, carries, edge_operations, edges_operations, point_operations, operations_below, operations}
 use Rattle.pc_rows.specs.Joins.{joined}
 use Rattle.pc_lower.proofs.Paying.{no_head}
 use Rattle.pc_breach.specs.declared.step.Step.{Step}

@@ -1,6 +1,6 @@
 -- The walk on which a row that is not met is followed: it takes the choices, and comes to an assertion that does not hold.
-use Rattle.std.proofs.Common.{◌≡◌, ◌∙◌, ◌==◌, ℕ, zero, suc, ◌+◌, ◌-◌, ◌<◌, ◌≤◌, ℤ, pos, ◌+ℤ◌, ◌≤ℤ◌, List, [], ◌∷◌, ◌++◌, length, replicate, Bool, true, false, cond, refl, sym, ap, subst, arith, inl, inr, Option, Some, None, append_assoc, length-set, length-append}
-use Rattle.std.specs.Prelude.{◌⊎◌, slice_set, is_none, option_to_list}
+use Rattle.std.proofs.Common.{◌≡◌, ◌∙◌, ◌==◌, ℕ, zero, suc, ◌+◌, ◌≤◌, ℤ, pos, ◌+ℤ◌, ◌≤ℤ◌, List, [], ◌∷◌, ◌++◌, length, Bool, true, false, cond, refl, sym, ap, subst, arith, inl, inr, Option, Some, None, append_assoc, length-set}
+use Rattle.std.specs.Prelude.{◌⊎◌, slice_set, option_to_list}
 use Rattle.std.specs.List.{AllByRecursion as Each}
 use Rattle.std.proofs.lemmas.Bool.Decides.{eqb_tells}
 use Rattle.pc_language.specs.Ends.{end_of}
@@ -12,7 +12,7 @@ use Rattle.pc_flow.specs.Annotation.{rows_at}
 use Rattle.pc_flow.specs.declared.what.What.{What}
 use Rattle.pc_flow.specs.declared.what.What.TheVariants.{Enter, Test, Set, Check}
 use Rattle.pc_flow.specs.Arc.{Arc, IsFit}
-use Rattle.pc_flow.specs.Carry.{back, owes, HasVariable}
+use Rattle.pc_flow.specs.Carry.{back, HasVariable}
 use Rattle.pc_flow.specs.Exact.{PointRows, NoRows, StraightEdge}
 use Rattle.pc_flow.specs.Flow.{Flow}
 use Rattle.pc_flow.specs.Incidence.{leaving}
@@ -22,14 +22,14 @@ use Rattle.pc_flow.specs.Walk.{Keeps, entered}
 use Rattle.pc_flow.proofs.Lists.{each_at}
 use Rattle.pc_lower.specs.Annotation.{no_rows}
 use Rattle.pc_lower.proofs.Paying.{need_is_owed}
-use Rattle.pc_graph.specs.Choices.{Sides, Takes, Chooses, Chosen, and_then}
+use Rattle.pc_graph.specs.Choices.{Sides, Takes, Chosen, and_then}
 use Rattle.pc_breach.specs.declared.step.Step.{Step}
 use Rattle.pc_breach.specs.Answers.{needed}
-use Rattle.pc_breach.specs.Following.{Standing, own_rows, choice, end_for, after_row, after_step, step_from, followed}
+use Rattle.pc_breach.specs.Following.{Standing, own_rows, choice, end_for, after_row, after_step, followed}
 use Rattle.pc_breach.specs.Graphs.{IsClosed, IsStraight}
 use Rattle.pc_breach.specs.Laws.{ChoicesBreak}
 use Rattle.pc_breach.proofs.Ends.{end_breaks}
-use Rattle.pc_breach.proofs.Same.{Outcome, Taken, Stands, HasStep, some_there, point_taken}
+use Rattle.pc_breach.proofs.Same.{Outcome, Stands, some_there, point_taken}
 
 meets_at : (s : State) (rows : List Linear) (r : Linear) → MeetsAll s rows → In r rows → Meets s r
 meets_at s [] r h m = absurd m
@@ -37,7 +37,7 @@ meets_at s (x ∷ xs) r h (inl e) = subst (Meets s) (sym e) h.0
 meets_at s (x ∷ xs) r h (inr m) = meets_at s xs r h.1 m
 
 -- the edges that leave a point are edges, and leave it
-leaving_in : (p : ℕ) (edges : List Arc) (e : Arc) → In e (leaving p edges) → In e edges × (e.from ≡ p)
+pub leaving_in : (p : ℕ) (edges : List Arc) (e : Arc) → In e (leaving p edges) → In e edges × (e.from ≡ p)
 leaving_in p [] e m = absurd m
 leaving_in p (f ∷ edges) e m = by (eqb_tells f.from p) m (leaving_in p edges e)
   where

@@ -8,3 +8,4 @@ pub mod Going
 pub mod Meaning
 pub mod Seeking
 pub mod Texts
+pub mod Fitting

@@ -1,10 +1,9 @@
 -- What the answers promise of walks and of runs.
-use Rattle.std.proofs.Common.{◌≡◌, ◌∙◌, ℕ, zero, suc, ◌+◌, ◌-◌, ◌≤◌, ℤ, pos, ◌≤ℤ◌, List, [], ◌∷◌, ◌++◌, length, replicate, refl, sym, ap, subst, arith, inl, inr, true, false, Bool, cond, Option, Some, None, append_assoc, length-append}
+use Rattle.std.proofs.Common.{◌≡◌, ◌∙◌, ℕ, ◌+◌, ◌-◌, ℤ, pos, ◌≤ℤ◌, List, [], ◌∷◌, ◌++◌, length, replicate, refl, sym, ap, subst, arith, inl, inr, true, false, Bool, cond, Option, Some, None, append_assoc, length-append}
 use Rattle.std.proofs.Math.ListN.{length-replicate}
-use Rattle.std.specs.Prelude.{◌⊎◌, int_le}
-use Rattle.std.specs.List.{AllByRecursion as Each}
+use Rattle.std.specs.Prelude.{int_le}
 use Rattle.pc_text.specs.declared.place.Place.{Place}
-use Rattle.pc_rows.specs.Linear.{Linear, State, value, Meets, MeetsAll, zero_from}
+use Rattle.pc_rows.specs.Linear.{Linear, State, value, MeetsAll}
 use Rattle.pc_rows.proofs.First.{value_of_first, value_at_entry, zero_from_all}
 use Rattle.pc_program.specs.Machine.{Outcome, Violated, Going, run, run_of, started}
 use Rattle.pc_flow.specs.Flow.{Flow}
@@ -15,7 +14,6 @@ use Rattle.pc_flow.specs.Annotation.{rows_at}
 use Rattle.pc_lower.specs.Annotation.{no_rows}
 use Rattle.pc_lower.proofs.Paying.{need_is_paid}
 use Rattle.pc_flow.specs.Exact.{NoRows, StraightEdge}
-use Rattle.pc_flow.specs.Shape.{NoHeads}
 use Rattle.pc_flow.proofs.Lists.{each_more}
 use Rattle.pc_graph.specs.Lowering.{graph}
 use Rattle.pc_graph.proofs.Bridge.{run_append, steps_correspond}

@@ -1,6 +1,6 @@
 -- Rows that are equal, and the step that an owed row has.
-use Rattle.std.proofs.Common.{◌≡◌, ◌∙◌, ◌==◌, ℕ, ℤ, pos, ◌≤ℤ◌, List, [], ◌∷◌, ◌++◌, length, Bool, true, false, cond, refl, sym, ap, ap₂, subst, arith, inl, inr, Option, Some, None}
-use Rattle.std.specs.Prelude.{◌⊎◌, ◌||◌, ◌&&◌, int_le}
+use Rattle.std.proofs.Common.{◌≡◌, ◌∙◌, ◌==◌, ℤ, pos, ◌≤ℤ◌, List, [], ◌∷◌, length, Bool, true, false, cond, refl, sym, ap, ap₂, subst, arith, inl, inr, Option, Some, None}
+use Rattle.std.specs.Prelude.{◌⊎◌, int_le}
 use Rattle.std.specs.List.{list_any}
 use Rattle.std.specs.Ordering.{int_eq}
 use Rattle.std.specs.Cmp.Lexicographic.{pointwise}
@@ -16,11 +16,10 @@ use Rattle.pc_flow.specs.declared.what.What.TheVariants.{Enter, Test, Set, Check
 use Rattle.pc_flow.specs.Arc.{Arc}
 use Rattle.pc_flow.specs.Carry.{back, back_all, owes}
 use Rattle.pc_flow.specs.Exact.{PointRows}
-use Rattle.pc_flow.specs.Incidence.{leaving}
 use Rattle.pc_flow.specs.Lists.{In}
 use Rattle.pc_flow.proofs.Lists.{in_either}
 use Rattle.pc_breach.specs.declared.step.Step.{Step}
-use Rattle.pc_breach.specs.Following.{Standing, is_same, own_rows, choice, carried_step, step_over, step_over_some, first_of_two, step_from}
+use Rattle.pc_breach.specs.Following.{Standing, is_same, own_rows, choice, carried_step, step_over, step_over_some, first_of_two}
 
 -- ---- the test for equal rows says what is meant
 

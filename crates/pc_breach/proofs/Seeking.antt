@@ -21,7 +21,7 @@ use Rattle.pc_flow.specs.declared.what.What.TheVariants.{Test, Check}
 use Rattle.pc_flow.specs.Arc.{Arc, arc}
 use Rattle.pc_flow.specs.Exact.{NoRows, StraightEdge}
 use Rattle.pc_flow.proofs.Lists.{each_more, none_joined}
-use Rattle.pc_graph.specs.Lowering.{Rule, one, assigned, low_end, high_end, tests, join_edges, rule, rule_step, rules, graph, made}
+use Rattle.pc_graph.specs.Lowering.{Rule, one, assigned, low_end, high_end, tests, join_edges, rule, rule_step, rules, graph}
 use Rattle.pc_graph.specs.Straight.{is_any, straight_step, is_straight, are_straight}
 use Rattle.pc_graph.specs.Ways.{ways}
 use Rattle.pc_graph.proofs.LoopFree.{loop_free_graphs}
@@ -31,7 +31,7 @@ use Rattle.pc_graph.proofs.Unrolled.{rule-if, rule-while}
 use Rattle.pc_breach.specs.declared.sought.Sought.{Sought}
 use Rattle.pc_breach.specs.declared.sought.Sought.TheVariants.{Bend, OpenEnd}
 use Rattle.pc_breach.specs.Graphs.{IsClosed}
-use Rattle.pc_breach.specs.Sought.{open_between, open_end, in_place, in_test, places_step, places, places_of, bends, open_ends, PlacesAreMeant}
+use Rattle.pc_breach.specs.Sought.{open_between, open_end, in_test, places_step, places, places_of, bends, open_ends, PlacesAreMeant}
 
 -- ---- the first place of an `if`
 

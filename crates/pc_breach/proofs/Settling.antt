@@ -1,17 +1,14 @@
 -- The answer of an entry state: what is settled, and what is tame.
-use Rattle.std.proofs.Common.{◌≡◌, ◌∙◌, ℕ, zero, suc, ◌+◌, ◌*◌, ◌^◌, ◌<◌, ◌≤◌, ℤ, pos, ◌+ℤ◌, ◌*ℤ◌, List, [], ◌∷◌, length, Bool, true, false, cond, refl, sym, ap, subst, arith, Option, Some, None, Result, Ok, Err}
+use Rattle.std.proofs.Common.{◌≡◌, ◌∙◌, ℕ, ◌+◌, ◌*◌, ◌^◌, ◌<◌, ◌≤◌, ℤ, pos, ◌+ℤ◌, ◌*ℤ◌, List, [], ◌∷◌, length, Bool, true, false, cond, refl, sym, ap, subst, arith, Some, None, Result, Ok, Err}
 use Rattle.std.specs.Prelude.{int_le}
 use Rattle.std.specs.Bool.{MatchBool}
-use Rattle.std.specs.List.{AllByRecursion as Each}
-use Rattle.std.proofs.lemmas.Int.{ints}
 use Rattle.pc_rows.specs.declared.rows.NoMemory.{NoMemory}
 use Rattle.pc_rows.specs.declared.row.TheConstants.{VARIABLES}
 use Rattle.pc_rows.specs.Linear.{Linear, State, Meets, MeetsAll, value}
 use Rattle.pc_rows.specs.Points.{SumsFit}
-use Rattle.pc_rows.specs.Bounds.{IsWithin, AreWithin, Within, AllWithin}
+use Rattle.pc_rows.specs.Bounds.{IsWithin, AreWithin, AllWithin}
 use Rattle.pc_rows.proofs.Bounding.{product_within, sum_within, within_in_range}
 use Rattle.pc_rows.proofs.Joining.{le_is, is_le}
-use Rattle.pc_flow.specs.Annotation.{rows_at}
 use Rattle.pc_flow.specs.declared.what.What.TheVariants.{Enter}
 use Rattle.pc_flow.specs.Arc.{arc}
 use Rattle.pc_flow.specs.Flow.{Flow}
@@ -23,7 +20,7 @@ use Rattle.pc_lower.proofs.Tameness.{no_tame, tame_need_fits}
 use Rattle.pc_lower.proofs.Variables.{each_rows_at}
 use Rattle.pc_breach.specs.declared.answer.Breach.{Breach}
 use Rattle.pc_breach.specs.declared.answer.Breach.TheVariants.{Past, Safe, Choices}
-use Rattle.pc_breach.specs.Entry.{Evaluates, AreEvaluated, first_broken}
+use Rattle.pc_breach.specs.Entry.{AreEvaluated, first_broken}
 use Rattle.pc_breach.specs.Answers.{needed, entry_rows, IsSettled, BreachIs, IsNotPast}
 
 -- ---- the first row that is not met

@@ -1,19 +1,18 @@
 -- The text of a script is read as its entry and its choices.
-use Rattle.std.proofs.Common.{◌≡◌, ◌∙◌, ℕ, ◌+◌, ◌<◌, ◌≤◌, ◌==◌, ℤ, pos, List, [], ◌∷◌, ◌++◌, map, drop, get_or, length, replicate, refl, sym, ap, ap₂, subst, arith, Bool, true, false, cond, Option, Some, None, Result, Ok, Err, append_assoc, length-append, eq-eqb}
+use Rattle.std.proofs.Common.{◌≡◌, ◌∙◌, ℕ, ◌+◌, ◌≤◌, ℤ, pos, List, [], ◌∷◌, ◌++◌, map, length, refl, sym, ap, ap₂, subst, arith, Bool, true, cond, Ok, Err, append_assoc, length-append, eq-eqb}
 use Rattle.std.specs.Prelude.{codes, ◌&&◌}
 use Rattle.std.specs.List.{list_all, flat_map}
 use Rattle.std.proofs.lemmas.Bool.{and_from, and_parts}
 use Rattle.std.proofs.lemmas.List.{append-nil}
 use Rattle.pc_text.specs.Bytes.{Bytes}
 use Rattle.pc_text.specs.Lexemes.{in_line, EachPasses}
-use Rattle.pc_text.specs.Lines.{lines, IsLine}
+use Rattle.pc_text.specs.Lines.{lines}
 use Rattle.pc_text.specs.Numerals.{numeral, integer_of, is_in_range}
 use Rattle.pc_text.specs.Words.{Words, words, behind, is_numeral}
 use Rattle.pc_text.proofs.NumeralTexts.{integer_numeral}
 use Rattle.pc_text.proofs.NumeralWords.{integer_is_numeral}
 use Rattle.pc_text.proofs.PlainWords.{IsPlain, words_of_line, plain_line, numeral_plain, numerals_plain}
 use Rattle.pc_text.proofs.WordLists.{joined}
-use Rattle.pc_rows.proofs.Adding.{drop_at}
 use Rattle.pc_runner.specs.declared.fault.ScriptFault.TheVariants as fault
 use Rattle.pc_runner.specs.declared.script.TheConstants.{CHOICES}
 use Rattle.pc_runner.specs.Scripts.{choice_of, choice_by, choice_behind, choices_of, entry_of, entry_by, as_many, values_in, on_ok, repeated, is_count}

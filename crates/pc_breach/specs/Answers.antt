@@ -1,5 +1,5 @@
 -- What is answered of an entry state of a graph.
-use Rattle.std.specs.Prelude.{◌≡◌, ℤ, List, length, Option, Some, None, Result, Ok, Err}
+use Rattle.std.specs.Prelude.{◌≡◌, ℤ, List, length, Result, Ok, Err}
 use Rattle.std.specs.List.{AllByRecursion as Each}
 use Rattle.pc_rows.specs.Linear.{Linear, State, MeetsAll}
 use Rattle.pc_rows.specs.declared.rows.NoMemory.{NoMemory}

@@ -1,5 +1,5 @@
 -- The rows of the entry at an entry state: they are evaluated in order, up to the first that is not met.
-use Rattle.std.specs.Prelude.{ℤ, pos, int_le, if◌then◌else◌, List, [], ◌∷◌, Option, Some, None}
+use Rattle.std.specs.Prelude.{pos, int_le, if◌then◌else◌, List, [], ◌∷◌, Option, Some, None}
 use Rattle.std.specs.Bool.{MatchBool}
 use Rattle.pc_rows.specs.Linear.{Linear, State, value}
 use Rattle.pc_rows.specs.Points.{SumsFit}

@@ -9,7 +9,6 @@ use Rattle.pc_flow.specs.declared.what.What.TheVariants.{Enter, Test, Set, Check
 use Rattle.pc_flow.specs.Arc.{Arc}
 use Rattle.pc_flow.specs.Carry.{back}
 use Rattle.pc_flow.specs.Exact.{PointRows}
-use Rattle.pc_flow.specs.Flow.{Flow}
 use Rattle.pc_flow.specs.Incidence.{leaving}
 use Rattle.pc_breach.specs.declared.step.Step.{Step}
 

@@ -1,11 +1,13 @@
 -- What the answers promise of walks and of runs.
-use Rattle.std.specs.Prelude.{◌≡◌, ℕ, ℤ, pos, List, [], ◌∷◌, ◌++◌, true, length}
-use Rattle.std.specs.List.{AllByRecursion as Each}
+use Rattle.std.specs.Prelude.{◌≡◌, ◌≤◌, ℕ, ℤ, pos, List, ◌∷◌, ◌++◌, true, length}
+use Rattle.std.specs.List.{AllByRecursion as Each, list_all}
+use Rattle.pc_text.specs.Numerals.{is_in_range}
 use Rattle.pc_text.specs.declared.place.Place.{Place}
 use Rattle.pc_rows.specs.Linear.{State, MeetsAll}
 use Rattle.pc_program.specs.declared.program.Program.{Program}
 use Rattle.pc_program.specs.Machine.{Violated, run_of, Safe}
-use Rattle.pc_flow.specs.Arc.{Arc}
+use Rattle.pc_runner.specs.declared.script.TheConstants.{CHOICES}
+use Rattle.pc_flow.specs.Arc.{Arc, IsFit}
 use Rattle.pc_flow.specs.Exact.{StraightEdge}
 use Rattle.pc_flow.specs.Flow.{Flow}
 use Rattle.pc_flow.specs.Lists.{In}
@@ -41,3 +43,11 @@ pub record RunsHold (p : Program) (s : State) : Type 0 where
 abbrev pub RunsAreMeant : Type 0
 RunsAreMeant =
     (p : Program) (s : State) → are_straight p.body ≡ true → Each (λ e. IsClosed e.what) (graph p).edges → IsEntry (graph p) s → RunsHold p s
+
+-- choices that a script holds: each in range, and not too many
+abbrev pub IsScripted : List ℤ → Type 0
+IsScripted cs = (list_all is_in_range cs ≡ true) × (length cs ≤ CHOICES)
+
+-- the ends of the choices of a graph's edges are in range, and no walk of it is long
+abbrev pub ChoicesAreFit : Type 0
+ChoicesAreFit = (g : Flow) (s : State) → IsGraph g → Each (λ e. IsFit e.what) g.edges → IsScripted (choices g s)

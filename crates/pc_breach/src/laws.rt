@@ -1,6 +1,6 @@
 //! What the answers promise of walks and of runs, as contracts of functions that do nothing.
 
-ghost use Rattle.pc_breach.specs.Laws.{AnswersAreMeant, RunsAreMeant};
+ghost use Rattle.pc_breach.specs.Laws.{AnswersAreMeant, ChoicesAreFit, RunsAreMeant};
 ghost use Rattle.pc_breach.specs.Scripts.{ScriptIsRead};
 ghost use Rattle.pc_breach.specs.Sought.{PlacesAreMeant};
 
@@ -24,4 +24,9 @@ pub fn places_are_meant()
 /// The text of a script is read as its entry and its choices.
 pub fn script_is_read()
     ensures { ScriptIsRead }
+{}
+
+/// The choices are in range, and no more than a script holds.
+pub fn choices_are_fit()
+    ensures { ChoicesAreFit }
 {}

@@ -12,6 +12,8 @@ mod step;
 
 pub use answer::Breach;
 pub use breaking::breach;
-pub use laws::{answers_are_meant, places_are_meant, runs_are_meant, script_is_read};
+pub use laws::{
+    answers_are_meant, choices_are_fit, places_are_meant, runs_are_meant, script_is_read,
+};
 pub use script::script_text;
 pub use sought::{first_bend, first_open_end};

@@ -1,8 +1,7 @@
-use Rattle.std.proofs.Common.{◌≡◌, ◌∙◌, pos, ℤ, ap, sym, Some, subst, false, true}
+use Rattle.std.proofs.Common.{◌∙◌, pos, ℤ, ap, sym, Some}
 use Rattle.std.specs.Prelude.{int_le}
 use Rattle.std.proofs.lemmas.Result.{err_from_is_err_and}
 use Rattle.pc_rows.specs.Linear.{Linear}
-use Rattle.pc_breach.specs.Entry.{first_broken}
 use Rattle.pc_breach.proofs.Evaluating.{met_next, met_refused, met_broken}
 use Rattle.pc_breach.proofs.entry.first_broken.Goals as goal
 

@@ -1,6 +1,4 @@
-use Rattle.std.proofs.Common.{◌≡◌, ◌∙◌, sym, rules, Some}
-use Rattle.pc_breach.specs.declared.step.Step.{Step}
-use Rattle.pc_breach.specs.Following.{choice}
+use Rattle.std.proofs.Common.{◌≡◌, ◌∙◌, sym, rules}
 use Rattle.pc_breach.proofs.Stepping.{carried_at, row_found, row_next}
 use Rattle.pc_breach.proofs.step.carried_step.Goals as goal
 
