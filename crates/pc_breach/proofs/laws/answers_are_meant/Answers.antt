@@ -1,0 +1,5 @@
+use Rattle.pc_breach.proofs.Meaning as proof
+use Rattle.pc_breach.proofs.laws.answers_are_meant.Goals as goal
+
+pub returns : goal.returns
+returns c = proof.answers_are_meant
