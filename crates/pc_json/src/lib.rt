@@ -1,0 +1,14 @@
+//! Certificates as JSON, written compactly and read back exactly.
+#![tactic(auto)]
+
+mod fault;
+mod members;
+mod numbers;
+mod proofs;
+mod reading;
+mod rows;
+mod sizes;
+
+pub use fault::JsonFault;
+pub use pc_certificate::Certificate;
+pub use reading::read_json;
