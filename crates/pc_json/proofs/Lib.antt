@@ -7,3 +7,4 @@ pub mod RowNumbers
 pub mod Lefts
 pub mod Keeping
 pub mod Whole
+pub mod SameValues

@@ -17,15 +17,15 @@ use Rattle.pc_json.specs.Exactly.{IsExactly}
 use Rattle.pc_json.specs.Answers.{IsJson, Means}
 use Rattle.pc_json.proofs.Keeping.{is_certificate, is_showable, is_kept}
 
-abbrev members_in : Data → Members
+abbrev pub members_in : Data → Members
 members_in (object ms) = ms
 members_in _ = no_members
 
-abbrev first : Members → Data
+abbrev pub first : Members → Data
 first no_members = null
 first (member k d ms) = d
 
-abbrev rest : Members → Members
+abbrev pub rest : Members → Members
 rest no_members = no_members
 rest (member k d ms) = ms
 

@@ -2,6 +2,7 @@
 #![tactic(auto)]
 
 mod fault;
+mod laws;
 mod members;
 mod numbers;
 mod proofs;
@@ -10,5 +11,6 @@ mod rows;
 mod sizes;
 
 pub use fault::JsonFault;
+pub use laws::{shown_is_read_back, value_determines_certificate};
 pub use pc_certificate::Certificate;
 pub use reading::read_json;
