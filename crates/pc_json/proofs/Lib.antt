@@ -1,0 +1,10 @@
+pub mod Injective
+pub mod Arrays
+pub mod Keys
+pub mod Numerals
+pub mod Parts
+pub mod RowNumbers
+pub mod Lefts
+pub mod Keeping
+pub mod Whole
+pub mod SameValues

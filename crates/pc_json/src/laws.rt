@@ -1,0 +1,14 @@
+//! Laws of certificates in JSON.
+
+ghost use Rattle.pc_json.specs.Answers.{ShownIsReadBack, ValueDeterminesCertificate};
+
+/// No two certificates have one value.
+pub fn value_determines_certificate()
+    ensures { ValueDeterminesCertificate }
+{}
+
+/// Of bytes that say a certificate, as those that [`show_json`](crate::show_json) gives, each right
+/// answer is this certificate, unless memory is wanting.
+pub fn shown_is_read_back()
+    ensures { ShownIsReadBack }
+{}
