@@ -1,5 +1,5 @@
 -- A statement makes as many edges as the context rules count.
-use Rattle.std.proofs.Common.{◌≡◌, ℕ, ◌+◌, ◌≤◌, List, [], ◌∷◌, ◌++◌, length, Bool, true, false, refl, sym, ap, subst, ◌∙◌, arith, map, length-append, cond}
+use Rattle.std.proofs.Common.{◌≡◌, ℕ, ◌+◌, ◌≤◌, List, [], ◌∷◌, ◌++◌, length, Bool, true, false, refl, ap, ◌∙◌, arith, map, length-append, cond}
 use Rattle.std.specs.Prelude.{sum}
 use Rattle.std.proofs.lemmas.List.Sums.{sum_by-cons}
 use Rattle.pc_text.specs.declared.place.Place.{Place}
@@ -9,13 +9,13 @@ use Rattle.pc_rows.specs.Linear.{Linear}
 use Rattle.pc_program.specs.Forms.{form, rows_by, rows_of, rows_all}
 use Rattle.pc_program.specs.Sane.{is_either, rows_in, test_edges, edges_step, edges}
 use Rattle.pc_program.specs.declared.tree.Compare.{Compare}
-use Rattle.pc_program.specs.declared.tree.Stmt.{Stmt, roll-Stmt, fold-roll-Stmt}
+use Rattle.pc_program.specs.declared.tree.Stmt.{roll-Stmt, fold-roll-Stmt}
 use Rattle.pc_program.specs.declared.tree.Stmt.TheOpen as stmt
 use Rattle.pc_program.specs.declared.tree.Test.{Test as Condition}
 use Rattle.pc_program.specs.declared.tree.Test.TheVariants as test
 use Rattle.pc_flow.specs.Arc.{Arc, arc}
 use Rattle.pc_flow.specs.declared.what.What.TheVariants.{Test}
-use Rattle.pc_graph.specs.Lowering.{Piece, tests, join_edges, split, loop}
+use Rattle.pc_graph.specs.Lowering.{tests, join_edges}
 use Rattle.pc_graph.specs.Ways.{is_lone, apart, ways_of, ways}
 use Rattle.pc_graph.proofs.Blocks.{Single, assigns, asserts, assumes, Block, done, single, branch, cycle, single_stmt, stmts, built}
 

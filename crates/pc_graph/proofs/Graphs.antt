@@ -1,5 +1,5 @@
 -- The graph of a program keeps what every graph keeps.
-use Rattle.std.proofs.Common.{◌≡◌, ◌≢◌, ℕ, ◌+◌, ◌<◌, ◌≤◌, ◌^◌, zero, suc, List, [], ◌∷◌, length, true, false, refl, sym, ap, subst, ◌∙◌, arith, map, inl, inr}
+use Rattle.std.proofs.Common.{◌≡◌, ◌≢◌, ℕ, ◌+◌, ◌<◌, ◌≤◌, ◌^◌, zero, suc, List, [], ◌∷◌, length, false, refl, sym, ap, subst, ◌∙◌, arith, map, inl, inr}
 use Rattle.std.specs.Prelude.{◌⊎◌, ◌==◌, sum}
 use Rattle.std.specs.List.{AllByRecursion as Each, list_any}
 use Rattle.std.proofs.lemmas.Bool.Decides.{nat_tests}

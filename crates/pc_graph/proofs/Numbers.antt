@@ -1,10 +1,8 @@
 -- How many points and edges the rules make.
-use Rattle.std.proofs.Common.{◌≡◌, ℕ, ◌+◌, ◌≤◌, List, [], ◌∷◌, ◌++◌, length, refl, sym, ap, subst, ◌∙◌, arith, length-append, map}
-use Rattle.std.specs.Prelude.{sum}
-use Rattle.pc_text.specs.declared.place.Place.{Place}
+use Rattle.std.proofs.Common.{◌≡◌, ℕ, ◌+◌, ◌≤◌, List, [], ◌∷◌, ◌++◌, length, sym, ap, ◌∙◌, arith, length-append}
 use Rattle.pc_program.specs.declared.tree.Stmt.{Stmt}
 use Rattle.pc_graph.specs.Lowering.{Piece, rules}
-use Rattle.pc_graph.proofs.Blocks.{Single, Block, done, single, branch, cycle, stmts, built, tree, rules_are}
+use Rattle.pc_graph.proofs.Blocks.{Block, done, single, branch, cycle, built, tree, rules_are}
 
 -- as many points as numbers
 pub points : (b : Block) (p n : ℕ) → (built b p n).next ≡ n + length (built b p n).places
