@@ -18,7 +18,7 @@ use Rattle.pc_flow.specs.declared.what.What.TheVariants.{Test}
 use Rattle.pc_graph.specs.Drawn.{Drawn, extended, with_edge, with_tests, branched, joined_at, turned, headed}
 use Rattle.pc_graph.specs.Lowering.{rule, rule_step, rules}
 use Rattle.pc_graph.specs.Ways.{apart, ways}
-use Rattle.pc_graph.proofs.Numbers.{rules_grow}
+use Rattle.pc_graph.proofs.Counts.{rules_grow}
 use Rattle.pc_graph.proofs.Unrolled.{rule-if, rule-while}
 
 -- ---- an edge for the negation of each row

@@ -20,7 +20,7 @@ use Rattle.pc_graph.specs.Rest.{rest}
 use Rattle.pc_graph.specs.Ways.{is_lone, ways_of, ways}
 use Rattle.pc_graph.proofs.Blocks.{Single, assigns, asserts, assumes, Block, done, single, branch, cycle, single_stmt, stmts, what_of, built}
 use Rattle.pc_graph.proofs.Listed.{Listed, begins, counted, rests_are, body_of, made_is, program_listed}
-use Rattle.pc_graph.proofs.Numbers.{points}
+use Rattle.pc_graph.proofs.Counts.{counted as numbers}
 use Rattle.pc_graph.proofs.Outs.{Outs}
 use Rattle.pc_graph.proofs.Running.{members}
 use Rattle.pc_graph.proofs.Whole.{body_outs}
@@ -100,9 +100,9 @@ module _ (g : List Arc) (ρ : ℕ → List Stmt) where
       let a = built xs (p + 1) (p + 1 + 1) in
       let b = built ys a.next (a.next + 1) in
       let m = built more b.next (b.next + 1) in
-      let f1 = points xs (p + 1) (p + 1 + 1) in
+      let f1 = (numbers xs (p + 1) (p + 1 + 1)).points in
       let f2 = sized xs (p + 1) in
-      let g1 = points ys a.next (a.next + 1) in
+      let g1 = (numbers ys a.next (a.next + 1)).points in
       let g2 = sized ys a.next in
       let trues = tests false p (p + 1) (ways t true) in
       let leads = test_leads g false p (p + 1) (ways t true) (has_way t) (each_left (λ e. In e g) trues _ (members g p (trues ++ tests false p a.next (ways t false)) o.0)) in
@@ -120,7 +120,7 @@ module _ (g : List Arc) (ρ : ℕ → List Stmt) where
       let again = roll-Stmt (stmt.While place t tried (stmts xs)) ∷ rest in
       let a = built xs (p + 1) (p + 1 + 1) in
       let m = built more a.next (a.next + 1) in
-      let f1 = points xs (p + 1) (p + 1 + 1) in
+      let f1 = (numbers xs (p + 1) (p + 1 + 1)).points in
       let f2 = sized xs (p + 1) in
       let trues = tests true p (p + 1) (ways t true) in
       let leads = test_leads g true p (p + 1) (ways t true) (has_way t) (each_left (λ e. In e g) trues _ (members g p (trues ++ tests false p a.next (ways t false)) o.0)) in

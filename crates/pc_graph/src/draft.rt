@@ -50,7 +50,7 @@ impl Model for Draft {
 
 impl Draft {
     /// Nothing but the present point and the number of the next.
-    pub fn new(alloc: Global, at: u32, next: u32) -> Draft
+    pub(crate) fn new(alloc: Global, at: u32, next: u32) -> Draft
         ensures { result ≡ begun at next }
     {
         Draft {
@@ -64,14 +64,14 @@ impl Draft {
     }
 
     /// The present point.
-    pub fn at(&self) -> u32
+    pub(crate) fn at(&self) -> u32
         ensures { result ≡ self.now.at }
     {
         self.at
     }
 
     /// An edge from the present point to a new one.
-    pub fn link(&mut self, place: Place, what: What) -> Result<(), NoMemory>
+    pub(crate) fn link(&mut self, place: Place, what: What) -> Result<(), NoMemory>
         requires fit { IsFit what }
         requires room { self.old.next < 2 ^ 32 - 1 }
         ensures { OnOk result (self.new ≡ extended self.old (one place what self.old.at self.old.next)) }
@@ -82,7 +82,7 @@ impl Draft {
     }
 
     /// A new point, which is the present one from now on.
-    pub fn point(&mut self, place: Place) -> Result<u32, NoMemory>
+    pub(crate) fn point(&mut self, place: Place) -> Result<u32, NoMemory>
         requires { self.old.next < 2 ^ 32 - 1 }
         ensures number { IfOk result (λ p. p ≡ self.old.next) }
         ensures made { OnOk result (self.new ≡ with_point place self.old) }
@@ -96,7 +96,7 @@ impl Draft {
     }
 
     /// An edge.
-    pub fn edge(&mut self, from: u32, to: u32, what: What, body: bool) -> Result<(), NoMemory>
+    pub(crate) fn edge(&mut self, from: u32, to: u32, what: What, body: bool) -> Result<(), NoMemory>
         requires { IsFit what }
         ensures { OnOk result (self.new ≡ with_edge (marked body «from» to what) self.old) }
     {
@@ -113,7 +113,7 @@ impl Draft {
     }
 
     /// The edges of one side of a test, from `p` to a new point.
-    pub fn branch(
+    pub(crate) fn branch(
         &mut self,
         n: u32,
         p: u32,
@@ -158,7 +158,7 @@ impl Draft {
     }
 
     /// The edges from the end `t` of a block and from the present point to a new one.
-    pub fn join(&mut self, place: Place, t: u32) -> Result<(), NoMemory>
+    pub(crate) fn join(&mut self, place: Place, t: u32) -> Result<(), NoMemory>
         requires { self.old.next < 2 ^ 32 - 1 }
         ensures { OnOk result (self.new ≡ joined_at place t self.old) }
     {
@@ -169,7 +169,7 @@ impl Draft {
     }
 
     /// The edge from the present point back to a head.
-    pub fn turn(&mut self, head: u32) -> Result<(), NoMemory>
+    pub(crate) fn turn(&mut self, head: u32) -> Result<(), NoMemory>
         ensures { OnOk result (self.new ≡ turned head self.old) }
     {
         let from = self.at;
@@ -177,7 +177,7 @@ impl Draft {
     }
 
     /// The present point becomes the head of a loop that tries the rows.
-    pub fn head(&mut self, tried: Rows) -> Result<(), NoMemory>
+    pub(crate) fn head(&mut self, tried: Rows) -> Result<(), NoMemory>
         ensures { OnOk result (self.new ≡ headed tried self.old) }
     {
         let head = self.at;

@@ -18,7 +18,7 @@ pub enum Side {
 
 impl Side {
     /// Whether the test holds on this side.
-    pub fn holds(self) -> bool
+    pub(crate) fn holds(self) -> bool
         ensures { result ≡ holds self }
     {
         match self {
@@ -28,7 +28,7 @@ impl Side {
     }
 
     /// Whether it is the body of a loop.
-    pub fn is_body(self) -> bool
+    pub(crate) fn is_body(self) -> bool
         ensures { result ≡ is_body self }
     {
         match self {
