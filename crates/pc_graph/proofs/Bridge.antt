@@ -1,31 +1,30 @@
 -- Runs of a program and walks through its graph.
-use Rattle.std.proofs.Common.{◌≡◌, ℕ, zero, suc, ◌+◌, ◌<◌, ◌≤◌, ℤ, pos, List, [], ◌∷◌, ◌++◌, length, refl, sym, ap, subst, ◌∙◌, arith, inl, inr, length-append}
+use Rattle.std.proofs.Common.{◌≡◌, ℕ, zero, suc, ◌<◌, ◌≤◌, ℤ, pos, List, [], ◌∷◌, ◌++◌, length, refl, sym, ap, subst, ◌∙◌, arith, inl, inr, length-append}
 use Rattle.std.specs.Prelude.{◌⊎◌}
-use Rattle.std.specs.List.{AllByRecursion as Each}
 use Rattle.std.proofs.Math.ListN.{get_or-eq_default}
 use Rattle.pc_text.specs.declared.place.Place.{Place}
 use Rattle.pc_text.specs.Named.{locals}
 use Rattle.pc_rows.specs.Linear.{State, zero_from}
 use Rattle.pc_rows.proofs.First.{zero_from_entry}
-use Rattle.pc_program.specs.Machine.{Outcome, Going, Violated, Blocked, Ended, step, next, run, run_of, started}
+use Rattle.pc_program.specs.Machine.{Outcome, Going, Violated, Blocked, Ended, step, next, run, started}
 use Rattle.pc_program.specs.declared.program.Program.{Program}
 use Rattle.pc_program.specs.declared.tree.Stmt.{Stmt}
 use Rattle.pc_flow.specs.Arc.{Arc, arc}
 use Rattle.pc_flow.specs.declared.what.What.TheVariants.{Enter, Test}
 use Rattle.pc_flow.specs.Lists.{In}
-use Rattle.pc_flow.specs.Walk.{Pass, Keeps, Walks, entered}
+use Rattle.pc_flow.specs.Walk.{Pass, Keeps, Walks}
 use Rattle.pc_flow.proofs.Entries.{to_start}
 use Rattle.pc_flow.proofs.Lists.{each_at, each_more}
-use Rattle.pc_graph.specs.Corresponds.{IsEntered, IsNoStep, IsStep, MayStand, SafeFrom, WalksAreSafe, SameSteps, StepsCorrespond, RestsAreSafe}
+use Rattle.pc_graph.specs.Corresponds.{IsEntered, IsNoStep, IsStep, MayStand, SafeFrom, WalksAreSafe, StepsCorrespond, RestsAreSafe}
 use Rattle.pc_graph.specs.Lowering.{Piece, graph, made, no_steps}
 use Rattle.pc_graph.specs.Rest.{rest, rests_of}
 use Rattle.pc_graph.specs.Straight.{are_straight}
 use Rattle.pc_graph.proofs.Blocks.{spans}
 use Rattle.pc_graph.proofs.Graphs.{graph_kept}
-use Rattle.pc_graph.proofs.Listed.{listing, body_of, body_is, made_is, program_listed, ends, counted, rests_are}
+use Rattle.pc_graph.proofs.Listed.{body_of, body_is, made_is, program_listed, ends, counted, rests_are}
 use Rattle.pc_graph.proofs.Running.{Fired, Fires, Simulates, fires, joins, simulates, order}
 use Rattle.pc_graph.proofs.Steps.{Moves, Asks, is_no_step, is_step, moves, asks}
-use Rattle.pc_graph.proofs.Whole.{HeadIn, IsJoinOf, IsMoveOf, IsKnownOf, body_sane, body_outs, joins_known, edges_known, known, between}
+use Rattle.pc_graph.proofs.Whole.{HeadIn, IsJoinOf, IsKnownOf, body_sane, body_outs, joins_known, edges_known, known, between}
 
 pub run_append : (cs ds : List ℤ) (o : Outcome) → run o (cs ++ ds) ≡ run (run o cs) ds
 run_append [] ds o = refl

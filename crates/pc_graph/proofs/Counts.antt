@@ -1,5 +1,5 @@
--- A statement makes as many edges as the context rules count.
-use Rattle.std.proofs.Common.{◌≡◌, ℕ, ◌+◌, ◌≤◌, List, [], ◌∷◌, ◌++◌, length, Bool, true, false, refl, sym, ap, subst, ◌∙◌, arith, map, length-append, cond}
+-- How many points and edges the rules make.
+use Rattle.std.proofs.Common.{◌≡◌, ℕ, ◌+◌, ◌≤◌, List, [], ◌∷◌, ◌++◌, length, Bool, true, false, refl, sym, ap, ◌∙◌, arith, map, length-append, cond}
 use Rattle.std.specs.Prelude.{sum}
 use Rattle.std.proofs.lemmas.List.Sums.{sum_by-cons}
 use Rattle.pc_text.specs.declared.place.Place.{Place}
@@ -15,9 +15,9 @@ use Rattle.pc_program.specs.declared.tree.Test.{Test as Condition}
 use Rattle.pc_program.specs.declared.tree.Test.TheVariants as test
 use Rattle.pc_flow.specs.Arc.{Arc, arc}
 use Rattle.pc_flow.specs.declared.what.What.TheVariants.{Test}
-use Rattle.pc_graph.specs.Lowering.{Piece, tests, join_edges, split, loop}
+use Rattle.pc_graph.specs.Lowering.{Piece, tests, join_edges, rules}
 use Rattle.pc_graph.specs.Ways.{is_lone, apart, ways_of, ways}
-use Rattle.pc_graph.proofs.Blocks.{Single, assigns, asserts, assumes, Block, done, single, branch, cycle, single_stmt, stmts, built}
+use Rattle.pc_graph.proofs.Blocks.{Single, assigns, asserts, assumes, Block, done, single, branch, cycle, single_stmt, stmts, built, tree, rules_are}
 
 rows_by_counted : (o : Op) (l r : Linear) → length (rows_by o l r) ≡ cond (is_either o) 2 1
 rows_by_counted op.Less l r = refl
@@ -84,55 +84,76 @@ cycle_long t p n m back xs more =
     let c = ways_counted t in
     omega (arith, length-append (trues ++ (xs ++ (back ∷ falses))) more, length-append trues (xs ++ (back ∷ falses)), length-append xs (back ∷ falses))
 
-pub counted : (b : Block) (p n : ℕ) → length (built b p n).edges ≡ sum (map edges (stmts b))
-counted done p n = refl
-counted (single place x more) p n =
-    let h = counted more n (n + 1) in
-    let e = single_counted place x in
-    let s = sum_by-cons (λ z. z) (edges (single_stmt place x)) (map edges (stmts more)) in
-    omega arith
-counted (branch place t xs ys more) p n =
-    let a = built xs n (n + 1) in
-    let b = built ys a.next (a.next + 1) in
-    let x = roll-Stmt (stmt.If place t (stmts xs) (stmts ys)) in
-    let f = counted xs n (n + 1) in
-    let g = counted ys a.next (a.next + 1) in
-    let h = counted more b.next (b.next + 1) in
-    let e : edges x ≡ test_edges t + 2 + sum (map edges (stmts xs)) + sum (map edges (stmts ys)) = fold-roll-Stmt ℕ edges_step (stmt.If place t (stmts xs) (stmts ys)) in
-    let s = sum_by-cons (λ z. z) (edges x) (map edges (stmts more)) in
-    let all = branch_long t p n a.next a.edges b.edges (join_edges a.last b.last b.next) (built more b.next (b.next + 1)).edges in
-    omega arith
-counted (cycle place t tried xs more) p n =
-    let a = built xs n (n + 1) in
-    let x = roll-Stmt (stmt.While place t tried (stmts xs)) in
-    let f = counted xs n (n + 1) in
-    let h = counted more a.next (a.next + 1) in
-    let e : edges x ≡ test_edges t + 1 + sum (map edges (stmts xs)) = fold-roll-Stmt ℕ edges_step (stmt.While place t tried (stmts xs)) in
-    let s = sum_by-cons (λ z. z) (edges x) (map edges (stmts more)) in
-    let all = cycle_long t p n a.next (arc a.last p (Test [])) a.edges (built more a.next (a.next + 1)).edges in
-    omega arith
-
 test_has : (t : Condition) → 1 ≤ test_edges t
 test_has test.Any = omega arith
 test_has (test.All cs) = omega arith
 
--- no more points than edges
-pub few : (b : Block) (p n : ℕ) → (built b p n).next ≤ n + length (built b p n).edges
-few done p n = omega arith
-few (single place x more) p n = let h = few more n (n + 1) in omega arith
-few (branch place t xs ys more) p n =
+-- as many points as numbers, no more of them than edges, and as many edges as the context rules count
+pub record Counted (b : Block) (n : ℕ) (a : Piece) : Type 0 where
+  pub points : a.next ≡ n + length a.places
+  pub few : a.next ≤ n + length a.edges
+  pub edges : length a.edges ≡ sum (map edges (stmts b))
+
+pub counted : (b : Block) (p n : ℕ) → Counted b n (built b p n)
+counted done p n = record { points = omega arith; few = omega arith; edges = refl }
+counted (single place x more) p n =
+    let h = counted more n (n + 1) in
+    let h1 = h.points in
+    let h2 = h.few in
+    let h3 = h.edges in
+    let e = single_counted place x in
+    let s = sum_by-cons (λ z. z) (edges (single_stmt place x)) (map edges (stmts more)) in
+    record { points = omega arith; few = omega arith; edges = omega arith }
+counted (branch place t xs ys more) p n =
     let a = built xs n (n + 1) in
     let b = built ys a.next (a.next + 1) in
-    let f = few xs n (n + 1) in
-    let g = few ys a.next (a.next + 1) in
-    let h = few more b.next (b.next + 1) in
-    let all = branch_long t p n a.next a.edges b.edges (join_edges a.last b.last b.next) (built more b.next (b.next + 1)).edges in
+    let m = built more b.next (b.next + 1) in
+    let x = roll-Stmt (stmt.If place t (stmts xs) (stmts ys)) in
+    let f = counted xs n (n + 1) in
+    let f1 = f.points in
+    let f2 = f.few in
+    let f3 = f.edges in
+    let g = counted ys a.next (a.next + 1) in
+    let g1 = g.points in
+    let g2 = g.few in
+    let g3 = g.edges in
+    let h = counted more b.next (b.next + 1) in
+    let h1 = h.points in
+    let h2 = h.few in
+    let h3 = h.edges in
+    let e : edges x ≡ test_edges t + 2 + sum (map edges (stmts xs)) + sum (map edges (stmts ys)) = fold-roll-Stmt ℕ edges_step (stmt.If place t (stmts xs) (stmts ys)) in
+    let s = sum_by-cons (λ z. z) (edges x) (map edges (stmts more)) in
+    let all = branch_long t p n a.next a.edges b.edges (join_edges a.last b.last b.next) m.edges in
     let has = test_has t in
-    omega arith
-few (cycle place t tried xs more) p n =
+    let places = place ∷ (b.places ++ (place ∷ [])) in
+    let long = length-append (place ∷ (a.places ++ places)) m.places in
+    let long_a = length-append a.places places in
+    let long_b = length-append b.places (place ∷ []) in
+    record { points = omega arith; few = omega arith; edges = omega arith }
+counted (cycle place t tried xs more) p n =
     let a = built xs n (n + 1) in
-    let f = few xs n (n + 1) in
-    let h = few more a.next (a.next + 1) in
-    let all = cycle_long t p n a.next (arc a.last p (Test [])) a.edges (built more a.next (a.next + 1)).edges in
+    let m = built more a.next (a.next + 1) in
+    let x = roll-Stmt (stmt.While place t tried (stmts xs)) in
+    let f = counted xs n (n + 1) in
+    let f1 = f.points in
+    let f2 = f.few in
+    let f3 = f.edges in
+    let h = counted more a.next (a.next + 1) in
+    let h1 = h.points in
+    let h2 = h.few in
+    let h3 = h.edges in
+    let e : edges x ≡ test_edges t + 1 + sum (map edges (stmts xs)) = fold-roll-Stmt ℕ edges_step (stmt.While place t tried (stmts xs)) in
+    let s = sum_by-cons (λ z. z) (edges x) (map edges (stmts more)) in
+    let all = cycle_long t p n a.next (arc a.last p (Test [])) a.edges m.edges in
     let has = test_has t in
+    let long = length-append (place ∷ (a.places ++ (place ∷ []))) m.places in
+    let long_a = length-append a.places (place ∷ []) in
+    record { points = omega arith; few = omega arith; edges = omega arith }
+
+-- no rule leaves a number below the one that it began with
+pub rules_grow : (ss : List Stmt) (p n : ℕ) → n ≤ (rules ss p n).next
+rules_grow ss p n =
+    let b = tree ss in
+    let h = (counted b.0 p n).points in
+    let e = ap (λ (z : List Stmt). (rules z p n).next) (sym b.1) ∙ ap (λ (z : Piece). z.next) (rules_are b.0 p n) in
     omega arith

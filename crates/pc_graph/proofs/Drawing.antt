@@ -18,7 +18,7 @@ use Rattle.pc_flow.specs.declared.what.What.TheVariants.{Test}
 use Rattle.pc_graph.specs.Drawn.{Drawn, extended, with_edge, with_tests, branched, joined_at, turned, headed}
 use Rattle.pc_graph.specs.Lowering.{rule, rule_step, rules}
 use Rattle.pc_graph.specs.Ways.{apart, ways}
-use Rattle.pc_graph.proofs.Numbers.{rules_grow}
+use Rattle.pc_graph.proofs.Counts.{rules_grow}
 use Rattle.pc_graph.proofs.Unrolled.{rule-if, rule-while}
 
 -- ---- an edge for the negation of each row
@@ -42,29 +42,41 @@ if_is place t xs ys = ap rule (sym (rolls-If place t xs ys)) ∙ rule-if place t
 while_is : (place : Place) (t : Condition) (tried : List Compare) (xs : List Stmt) → rule (While place t tried xs) ≡ rule_step (stmt.While place t tried (map rule xs))
 while_is place t tried xs = ap rule (sym (rolls-While place t tried xs)) ∙ rule-while place t tried xs
 
-pub if_done : (place : Place) (t : Condition) (xs ys : List Stmt) (g g1 g2 g3 : Drawn) (p q : ℕ) → p ≡ g.at →
-    g1 ≡ extended (branched p place (ways t true) false g) (rules xs g.next (g.next + 1)) → q ≡ g1.at →
-    g2 ≡ extended (branched p place (ways t false) false g1) (rules ys g1.next (g1.next + 1)) → g3 ≡ joined_at place q g2 →
-    g3 ≡ extended g (rule (If place t xs ys) g.at g.next)
-if_done place t xs ys g g1 g2 g3 p q ep h1 hq h2 h3 = rw (h3, h2, hq, h1, ep, if_is place t xs ys) (simp append_assoc)
+pub if_done : (place : Place) (t : Condition) (xs ys : List Stmt) (g g1 g2 g3 g4 g5 : Drawn) (p q : ℕ) → p ≡ g.at →
+    g1 ≡ branched p place (ways t true) false g → g2 ≡ extended g1 (rules xs g1.at g1.next) → q ≡ g2.at →
+    g3 ≡ branched p place (ways t false) false g2 → g4 ≡ extended g3 (rules ys g3.at g3.next) → g5 ≡ joined_at place q g4 →
+    g5 ≡ extended g (rule (If place t xs ys) g.at g.next)
+if_done place t xs ys g g1 g2 g3 g4 g5 p q ep h1 h2 hq h3 h4 h5 = rw (h5, h4, h3, hq, h2, h1, ep, if_is place t xs ys) (simp append_assoc)
 
-pub while_done : (place : Place) (t : Condition) (tried : List Compare) (xs : List Stmt) (rows : List Linear) (g g0 g1 g2 g3 : Drawn) (p : ℕ) →
-    p ≡ g.at → rows ≡ rows_all tried → g0 ≡ headed rows g → g1 ≡ extended (branched p place (ways t true) true g0) (rules xs g0.next (g0.next + 1)) →
-    g2 ≡ turned p g1 → g3 ≡ branched p place (ways t false) false g2 → g3 ≡ extended g (rule (While place t tried xs) g.at g.next)
-while_done place t tried xs rows g g0 g1 g2 g3 p ep er h0 h1 h2 h3 = rw (h3, h2, h1, h0, er, ep, while_is place t tried xs) (simp append_assoc)
+pub while_done : (place : Place) (t : Condition) (tried : List Compare) (xs : List Stmt) (rows : List Linear) (g g0 g1 g2 g3 g4 : Drawn) (p : ℕ) →
+    p ≡ g.at → rows ≡ rows_all tried → g0 ≡ headed rows g → g1 ≡ branched p place (ways t true) true g0 → g2 ≡ extended g1 (rules xs g1.at g1.next) →
+    g3 ≡ turned p g2 → g4 ≡ branched p place (ways t false) false g3 → g4 ≡ extended g (rule (While place t tried xs) g.at g.next)
+while_done place t tried xs rows g g0 g1 g2 g3 g4 p ep er h0 h1 h2 h3 h4 = rw (h4, h3, h2, h1, h0, er, ep, while_is place t tried xs) (simp append_assoc)
 
 -- the numbers that an `if` needs: those of its first block are no greater than those of its second
 if_next : (place : Place) (t : Condition) (xs ys : List Stmt) (p n : ℕ) →
     (rule (If place t xs ys) p n).next ≡ (rules ys (rules xs n (n + 1)).next ((rules xs n (n + 1)).next + 1)).next + 1
 if_next place t xs ys p n = rw (if_is place t xs ys) refl
 
--- the room of an `if` is room for its first block
+-- the room of an `if` is room for its points
+pub if_rooms : (place : Place) (t : Condition) (xs ys : List Stmt) (p n : ℕ) → (rule (If place t xs ys) p n).next < 2 ^ 32 →
+    (n < 4294967295) × ((rules xs n (n + 1)).next < 4294967295)
+if_rooms place t xs ys p n room =
+    let next = if_next place t xs ys p n in
+    let first = rules xs n (n + 1) in
+    let more = rules_grow xs n (n + 1) in
+    let more2 = rules_grow ys first.next (first.next + 1) in
+    (omega arith, omega arith)
+
+-- and for its first block
 pub then_room : (place : Place) (t : Condition) (xs ys : List Stmt) (g : Drawn) → (rule (If place t xs ys) g.at g.next).next < 2 ^ 32 →
     (rules xs g.next (g.next + 1)).next < 2 ^ 32
-then_room place t xs ys g room =
-    let next = if_next place t xs ys g.at g.next in
-    let first = rules xs g.next (g.next + 1) in
-    let more = rules_grow ys first.next (first.next + 1) in
+then_room place t xs ys g room = let h = (if_rooms place t xs ys g.at g.next room).1 in omega arith
+
+pub while_room : (place : Place) (t : Condition) (tried : List Compare) (xs : List Stmt) (p n : ℕ) → (rule (While place t tried xs) p n).next < 2 ^ 32 → n < 4294967295
+while_room place t tried xs p n room =
+    let next : (rule (While place t tried xs) p n).next ≡ (rules xs n (n + 1)).next + 1 = rw (while_is place t tried xs) refl in
+    let more = rules_grow xs n (n + 1) in
     omega arith
 
 -- ---- a list of statements, of which the first are done

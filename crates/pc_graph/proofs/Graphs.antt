@@ -1,5 +1,5 @@
 -- The graph of a program keeps what every graph keeps.
-use Rattle.std.proofs.Common.{◌≡◌, ◌≢◌, ℕ, ◌+◌, ◌<◌, ◌≤◌, ◌^◌, zero, suc, List, [], ◌∷◌, length, true, false, refl, sym, ap, subst, ◌∙◌, arith, map, inl, inr}
+use Rattle.std.proofs.Common.{◌≡◌, ◌≢◌, ℕ, ◌+◌, ◌<◌, ◌≤◌, ◌^◌, zero, suc, List, [], ◌∷◌, length, false, refl, sym, ap, subst, ◌∙◌, arith, map, inl, inr}
 use Rattle.std.specs.Prelude.{◌⊎◌, ◌==◌, sum}
 use Rattle.std.specs.List.{AllByRecursion as Each, list_any}
 use Rattle.std.proofs.lemmas.Bool.Decides.{nat_tests}
@@ -19,9 +19,8 @@ use Rattle.pc_flow.proofs.Lists.{each_more, each_of_members}
 use Rattle.pc_graph.specs.Drawn.{Drawn, extended, entered}
 use Rattle.pc_graph.specs.Lowering.{Piece, rules, made, graph, points_from}
 use Rattle.pc_graph.proofs.Blocks.{spans}
-use Rattle.pc_graph.proofs.Counts.{counted, few}
+use Rattle.pc_graph.proofs.Counts.{counted}
 use Rattle.pc_graph.proofs.Listed.{body_of, body_is, made_is}
-use Rattle.pc_graph.proofs.Numbers.{points}
 use Rattle.pc_graph.proofs.Outs.{From}
 use Rattle.pc_graph.proofs.Shapes.{IsLoop, loops_over, edge_over, edge_rises}
 use Rattle.pc_graph.proofs.Variables.{points_over}
@@ -63,9 +62,9 @@ made_shape p =
     let v = length p.names.names in
     record {
       next = subst (λ (z : Piece). z.next ≡ z.last + 1) is (spans b 1).next;
-      points = subst (λ (z : Piece). z.next ≡ 2 + length z.places) is (points b 1 2);
-      few = subst (λ (z : Piece). z.next ≤ 2 + length z.edges) is (few b 1 2);
-      count = subst (λ (z : Piece). length z.edges ≡ sum (map edges p.body)) is (counted b 1 2 ∙ ap (λ (z : List Stmt). sum (map edges z)) (body_is p));
+      points = subst (λ (z : Piece). z.next ≡ 2 + length z.places) is (counted b 1 2).points;
+      few = subst (λ (z : Piece). z.next ≤ 2 + length z.edges) is (counted b 1 2).few;
+      count = subst (λ (z : Piece). length z.edges ≡ sum (map edges p.body)) is ((counted b 1 2).edges ∙ ap (λ (z : List Stmt). sum (map edges z)) (body_is p));
       loops = subst (λ (z : Piece). Each (IsLoop v) z.loops) is (loops_over v b 1 (body_sane p) (omega arith));
     }
 

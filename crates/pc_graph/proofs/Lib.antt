@@ -26,4 +26,3 @@ pub mod Steps
 pub mod Whole
 pub mod Driving
 pub mod Running
-pub mod Numbers

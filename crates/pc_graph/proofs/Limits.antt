@@ -39,15 +39,6 @@ pub ways_few : (n : ℕ) (t : Condition) (b : Bool) → sane_test n t ≡ true �
 ways_few n test.Any b h = (omega arith, tt)
 ways_few n (test.All cs) b h = ways_of_few (is_lone cs) b (rows_all cs) (ready_few cs (rows_all cs) refl (test_ready n cs h))
 
--- a test has an edge
-way_of_has : (lone : Bool) (rows : List Linear) → 1 ≤ length (ways_of lone rows true) + length (ways_of lone rows false)
-way_of_has true rows = omega arith
-way_of_has false rows = omega arith
-
-pub test_has : (t : Condition) → 1 ≤ length (ways t true) + length (ways t false)
-test_has test.Any = omega arith
-test_has (test.All cs) = way_of_has (is_lone cs) (rows_all cs)
-
 -- ---- assignments
 
 ends_fit : (lo hi : Bound) → in_order (end_of lo) (end_of hi) ≡ true → BoundsFit lo hi

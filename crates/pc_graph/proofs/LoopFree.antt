@@ -4,13 +4,13 @@ use Rattle.std.specs.List.{AllByRecursion as Each}
 use Rattle.pc_text.specs.declared.place.Place.{Place}
 use Rattle.pc_program.specs.Loops.{whiles, whiles_step, whiles_of}
 use Rattle.pc_program.specs.declared.program.Program.{Program}
-use Rattle.pc_program.specs.declared.tree.Stmt.{Stmt, roll-Stmt, fold-roll-Stmt}
+use Rattle.pc_program.specs.declared.tree.Stmt.{roll-Stmt, fold-roll-Stmt}
 use Rattle.pc_program.specs.declared.tree.Stmt.TheOpen as stmt
 use Rattle.pc_flow.proofs.Lists.{none_joined}
 use Rattle.pc_graph.specs.declared.draft.Loop.{Loop}
 use Rattle.pc_graph.specs.Lowering.{Piece, made, points_from}
 use Rattle.pc_graph.specs.Straight.{LoopFreeGraphs}
-use Rattle.pc_graph.proofs.Blocks.{Single, Block, done, single, branch, cycle, single_stmt, stmts, built}
+use Rattle.pc_graph.proofs.Blocks.{Block, done, single, branch, cycle, single_stmt, stmts, built}
 use Rattle.pc_graph.proofs.Listed.{body_of, body_is, made_is}
 
 left_none : (ps qs : List Place) → (ps ++ qs) ≡ [] → ps ≡ []

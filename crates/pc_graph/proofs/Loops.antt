@@ -1,5 +1,5 @@
 -- The marks of a program's graph.
-use Rattle.std.proofs.Common.{◌≡◌, ◌≢◌, ℕ, zero, suc, ◌+◌, ◌<◌, ◌≤◌, ◌==◌, List, [], ◌∷◌, ◌++◌, length, Bool, true, false, cond, refl, sym, ap, subst, ◌∙◌, arith, inl, inr, Some, slice_get}
+use Rattle.std.proofs.Common.{◌≡◌, ℕ, zero, suc, ◌+◌, ◌<◌, ◌==◌, List, [], ◌∷◌, ◌++◌, Bool, true, false, cond, refl, sym, ap, subst, ◌∙◌, arith, inl, inr, Some, slice_get}
 use Rattle.std.specs.Prelude.{◌⊎◌, ◌||◌}
 use Rattle.std.specs.List.{AllByRecursion as Each, list_any}
 use Rattle.std.proofs.lemmas.Bool.Decides.{eqb_tells}
@@ -14,15 +14,15 @@ use Rattle.pc_flow.specs.declared.what.What.{What}
 use Rattle.pc_flow.specs.Arc.{Arc}
 use Rattle.pc_flow.specs.Incidence.{leaving}
 use Rattle.pc_flow.specs.Lists.{In}
-use Rattle.pc_flow.specs.Shape.{IsHead, IsCheck, IsAloneIfCheck, LeadsUp, ChecksAlone}
-use Rattle.pc_flow.proofs.Lists.{each_at, each_more, each_of_members}
+use Rattle.pc_flow.specs.Shape.{IsHead, IsCheck, IsAloneIfCheck, LeadsUp}
+use Rattle.pc_flow.proofs.Lists.{each_at, each_of_members}
 use Rattle.pc_graph.specs.declared.draft.Loop.{Loop}
 use Rattle.pc_graph.specs.Lowering.{Piece, graph, made, point_at, points_from, tried_at, tests}
-use Rattle.pc_graph.specs.Marks.{LeadsOn, IsLoopAt, MarksLoops, LoopsAreMarked}
+use Rattle.pc_graph.specs.Marks.{LeadsOn, IsLoopAt, LoopsAreMarked}
 use Rattle.pc_graph.specs.Rest.{rest}
 use Rattle.pc_graph.specs.Straight.{ChecksStandAlone}
 use Rattle.pc_graph.specs.Ways.{ways}
-use Rattle.pc_graph.proofs.Blocks.{Single, Block, done, single, branch, cycle, stmts, built, spans}
+use Rattle.pc_graph.proofs.Blocks.{Block, done, single, branch, cycle, stmts, built}
 use Rattle.pc_graph.proofs.Graphs.{graph_kept, head_point, points-length}
 use Rattle.pc_graph.proofs.Listed.{Listed, begins, body_of, made_is, program_listed}
 use Rattle.pc_graph.proofs.Outs.{Outs}
@@ -98,8 +98,7 @@ module _ (ρ : ℕ → List Stmt) (g : List Arc) where
       let rest = stmts more ++ k in
       let again = roll-Stmt (stmt.While place t tried (stmts xs)) ∷ rest in
       let a = built xs (p + 1) (p + 1 + 1) in
-      let Leads = λ (e : Arc). LeadsOn ρ (stmts xs ++ again) rest e.body e in
-      (
+      let Leads = λ (e : Arc). LeadsOn ρ (stmts xs ++ again) rest e.body e in (
         record {
           place = place;
           test = t;

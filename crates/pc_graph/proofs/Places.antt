@@ -1,12 +1,10 @@
 -- The places of the points that the rules make.
-use Rattle.std.proofs.Common.{◌≡◌, ℕ, ◌+◌, ◌<◌, List, [], ◌∷◌, ◌++◌, length, Bool, true, false, refl, sym, ap, subst, ◌∙◌, arith, inl, inr, length-append}
-use Rattle.std.specs.Prelude.{◌⊎◌}
+use Rattle.std.proofs.Common.{◌≡◌, ℕ, ◌+◌, List, [], ◌∷◌, ◌++◌, length, Bool, true, false, refl, sym, ap, subst, ◌∙◌, arith, inl, inr, length-append}
 use Rattle.std.specs.List.{AllByRecursion as Each}
 use Rattle.pc_text.specs.declared.place.Place.{Place}
 use Rattle.pc_rows.specs.Linear.{Linear}
 use Rattle.pc_rows.proofs.Joining.{each_left}
-use Rattle.pc_program.specs.Forms.{rows_by, rows_all, form}
-use Rattle.pc_program.specs.declared.tree.Compare.{Compare}
+use Rattle.pc_program.specs.Forms.{rows_by, form}
 use Rattle.pc_program.specs.declared.tree.Stmt.{Stmt, Stmt-F, roll-Stmt, out-roll-Stmt}
 use Rattle.pc_program.specs.declared.tree.Stmt.TheOpen as stmt
 use Rattle.pc_program.specs.declared.tree.Test.{Test as Condition}
@@ -14,19 +12,15 @@ use Rattle.pc_program.specs.declared.tree.Test.TheVariants as test
 use Rattle.pc_language.specs.declared.operator.Op.{Op}
 use Rattle.pc_language.specs.declared.operator.Op.TheVariants as op
 use Rattle.pc_flow.specs.Arc.{Arc, arc}
-use Rattle.pc_flow.specs.declared.what.What.{What}
-use Rattle.pc_flow.specs.declared.what.What.TheVariants.{Test}
-use Rattle.pc_flow.specs.Incidence.{leaving}
 use Rattle.pc_flow.specs.Lists.{AnyOf, In}
-use Rattle.pc_flow.specs.declared.point.PointInfo.{PointInfo}
 use Rattle.pc_graph.specs.declared.draft.Loop.{Loop}
 use Rattle.pc_graph.specs.Lowering.{Piece, graph, made, points_from, tests}
-use Rattle.pc_graph.specs.Places.{first_place, size, own, owned, LeadsTo, IsMade, AreMade, PlacesAreTheirs}
-use Rattle.pc_graph.specs.Rest.{rest, rests_of}
+use Rattle.pc_graph.specs.Places.{first_place, size, owned, LeadsTo, IsMade, AreMade, PlacesAreTheirs}
+use Rattle.pc_graph.specs.Rest.{rest}
 use Rattle.pc_graph.specs.Ways.{is_lone, ways_of, ways}
-use Rattle.pc_graph.proofs.Blocks.{Single, assigns, asserts, assumes, Block, done, single, branch, cycle, single_stmt, stmts, what_of, built, spans}
-use Rattle.pc_graph.proofs.Listed.{listing, Listed, begins, counted, rests_are, body_of, made_is, program_listed}
-use Rattle.pc_graph.proofs.Numbers.{points}
+use Rattle.pc_graph.proofs.Blocks.{Single, assigns, asserts, assumes, Block, done, single, branch, cycle, single_stmt, stmts, what_of, built}
+use Rattle.pc_graph.proofs.Listed.{Listed, begins, counted, rests_are, body_of, made_is, program_listed}
+use Rattle.pc_graph.proofs.Counts.{counted as numbers}
 use Rattle.pc_graph.proofs.Outs.{Outs}
 use Rattle.pc_graph.proofs.Running.{members}
 use Rattle.pc_graph.proofs.Whole.{body_outs}
@@ -106,9 +100,9 @@ module _ (g : List Arc) (ρ : ℕ → List Stmt) where
       let a = built xs (p + 1) (p + 1 + 1) in
       let b = built ys a.next (a.next + 1) in
       let m = built more b.next (b.next + 1) in
-      let f1 = points xs (p + 1) (p + 1 + 1) in
+      let f1 = (numbers xs (p + 1) (p + 1 + 1)).points in
       let f2 = sized xs (p + 1) in
-      let g1 = points ys a.next (a.next + 1) in
+      let g1 = (numbers ys a.next (a.next + 1)).points in
       let g2 = sized ys a.next in
       let trues = tests false p (p + 1) (ways t true) in
       let leads = test_leads g false p (p + 1) (ways t true) (has_way t) (each_left (λ e. In e g) trues _ (members g p (trues ++ tests false p a.next (ways t false)) o.0)) in
@@ -126,7 +120,7 @@ module _ (g : List Arc) (ρ : ℕ → List Stmt) where
       let again = roll-Stmt (stmt.While place t tried (stmts xs)) ∷ rest in
       let a = built xs (p + 1) (p + 1 + 1) in
       let m = built more a.next (a.next + 1) in
-      let f1 = points xs (p + 1) (p + 1 + 1) in
+      let f1 = (numbers xs (p + 1) (p + 1 + 1)).points in
       let f2 = sized xs (p + 1) in
       let trues = tests true p (p + 1) (ways t true) in
       let leads = test_leads g true p (p + 1) (ways t true) (has_way t) (each_left (λ e. In e g) trues _ (members g p (trues ++ tests false p a.next (ways t false)) o.0)) in

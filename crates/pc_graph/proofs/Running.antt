@@ -1,13 +1,13 @@
 -- Each step of a program has an edge of its graph.
-use Rattle.std.proofs.Common.{◌≡◌, ◌∙◌, ℕ, ◌+◌, ◌<◌, ◌≤◌, ℤ, pos, ◌+ℤ◌, List, [], ◌∷◌, ◌++◌, Bool, true, false, cond, refl, sym, ap, subst, arith, inl, inr}
-use Rattle.std.specs.Prelude.{◌⊎◌, ◌==◌, slice_set, nat_le}
+use Rattle.std.proofs.Common.{◌≡◌, ◌∙◌, ℕ, ◌+◌, ◌<◌, ◌≤◌, ℤ, List, [], ◌∷◌, ◌++◌, Bool, true, false, cond, refl, sym, ap, subst, arith, inl, inr}
+use Rattle.std.specs.Prelude.{◌⊎◌, ◌==◌, nat_le}
 use Rattle.std.specs.List.{AllByRecursion as Each}
 use Rattle.std.proofs.lemmas.Bool.{and_parts}
 use Rattle.std.proofs.lemmas.Bool.Decides.{leb_tells}
 use Rattle.pc_text.specs.declared.place.Place.{Place}
-use Rattle.pc_rows.specs.Linear.{Linear, State, value, MeetsAll}
+use Rattle.pc_rows.specs.Linear.{Linear, State, MeetsAll}
 use Rattle.pc_rows.proofs.Joining.{each_left, each_right}
-use Rattle.pc_program.specs.Forms.{form, rows_all}
+use Rattle.pc_program.specs.Forms.{rows_all}
 use Rattle.pc_program.specs.Machine.{Outcome, Going, Violated, Blocked, Ended, step, drawn}
 use Rattle.pc_program.specs.Sane.{sane_test, sane_expr, sane_choice, sane_all}
 use Rattle.pc_program.specs.Values.{all_hold, chosen}
@@ -21,7 +21,7 @@ use Rattle.pc_flow.specs.Incidence.{leaving}
 use Rattle.pc_flow.specs.Lists.{AnyOf, In}
 use Rattle.pc_flow.specs.Walk.{Pass, Keeps}
 use Rattle.pc_flow.proofs.Lists.{each_more}
-use Rattle.pc_graph.specs.Lowering.{Piece, assigned, tests}
+use Rattle.pc_graph.specs.Lowering.{assigned, tests}
 use Rattle.pc_graph.specs.Ways.{ways}
 use Rattle.pc_graph.proofs.Blocks.{Single, assigns, asserts, assumes, Block, done, single, branch, cycle, single_stmt, stmts, what_of, built, SaneSingle, Sane, spans}
 use Rattle.pc_graph.proofs.Draws.{drawn_within}

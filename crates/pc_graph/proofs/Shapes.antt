@@ -1,20 +1,19 @@
 -- Where the edges of a program's graph lead, and what they and its loops are over.
-use Rattle.std.proofs.Common.{◌≡◌, ℕ, ◌+◌, ◌<◌, ◌≤◌, List, [], ◌∷◌, ◌++◌, length, Bool, true, refl, sym, subst, arith, inl, inr}
+use Rattle.std.proofs.Common.{ℕ, ◌+◌, ◌<◌, ◌≤◌, ◌++◌, length, refl, sym, subst, arith, inl, inr}
 use Rattle.std.specs.Prelude.{◌⊎◌}
 use Rattle.std.specs.List.{AllByRecursion as Each}
-use Rattle.pc_rows.specs.Linear.{Linear, IsOver}
+use Rattle.pc_rows.specs.Linear.{IsOver}
 use Rattle.pc_rows.specs.declared.row.TheConstants.{VARIABLES}
 use Rattle.pc_rows.proofs.Joining.{each_join}
 use Rattle.pc_program.specs.Forms.{rows_all}
 use Rattle.pc_program.specs.declared.program.Program.{Program}
 use Rattle.pc_flow.specs.Arc.{Arc, IsFit}
 use Rattle.pc_flow.specs.declared.what.What.{What}
-use Rattle.pc_flow.specs.declared.what.What.TheVariants.{Test}
 use Rattle.pc_flow.specs.declared.what.TheConstants.{TEST_ROWS}
 use Rattle.pc_flow.specs.Shape.{WhatIsOver}
 use Rattle.pc_flow.proofs.Lists.{each_at}
 use Rattle.pc_graph.specs.declared.draft.Loop.{Loop}
-use Rattle.pc_graph.specs.Lowering.{Piece, made}
+use Rattle.pc_graph.specs.Lowering.{made}
 use Rattle.pc_graph.specs.Ways.{ways}
 use Rattle.pc_graph.proofs.Blocks.{Single, assigns, asserts, assumes, Block, done, single, branch, cycle, what_of, built, SaneSingle, Sane, spans}
 use Rattle.pc_graph.proofs.Limits.{ways_few, assigned_fits, right_over}

@@ -1,5 +1,5 @@
 -- Straight statements are no loops.
-use Rattle.std.proofs.Common.{◌≡◌, List, [], ◌∷◌, ◌++◌, refl, sym, ap, ◌∙◌}
+use Rattle.std.proofs.Common.{◌≡◌, List, [], refl, sym, ap, ◌∙◌}
 use Rattle.pc_text.specs.declared.place.Place.{Place}
 use Rattle.pc_program.specs.Loops.{whiles, whiles_step, whiles_of}
 use Rattle.pc_program.specs.declared.tree.Stmt.{roll-Stmt, fold-roll-Stmt}

@@ -1,5 +1,5 @@
 -- The graph of a program without loops, assumptions and tests but `*`: its edges lead up, and all but assertions pass every state.
-use Rattle.std.proofs.Common.{◌≡◌, ℕ, ◌<◌, List, [], ◌∷◌, length, Bool, true, refl, sym, subst, arith, inl, inr}
+use Rattle.std.proofs.Common.{◌≡◌, ◌<◌, List, [], ◌∷◌, length, Bool, true, refl, sym, subst, arith, inl, inr}
 use Rattle.std.specs.Prelude.{◌⊎◌}
 use Rattle.pc_rows.specs.Linear.{Linear}
 use Rattle.pc_program.specs.declared.program.Program.{Program}

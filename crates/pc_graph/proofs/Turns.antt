@@ -2,7 +2,6 @@
 use Rattle.std.proofs.Common.{◌≡◌, ℕ, ◌+◌, ◌<◌, ◌≤◌, List, [], ◌∷◌, ◌++◌, true, false, refl, sym, subst, arith, inl, inr, Bool}
 use Rattle.std.specs.Prelude.{◌⊎◌}
 use Rattle.std.specs.List.{AllByRecursion as Each}
-use Rattle.pc_text.specs.declared.place.Place.{Place}
 use Rattle.pc_rows.specs.Linear.{Linear}
 use Rattle.pc_rows.proofs.Joining.{each_join}
 use Rattle.pc_program.proofs.Stmts.{all_by}
@@ -13,7 +12,7 @@ use Rattle.pc_flow.proofs.Lists.{each_more}
 use Rattle.pc_graph.specs.Lowering.{Piece, tests, join_edges, split, loop, made}
 use Rattle.pc_graph.specs.Straight.{LoopsHaveTheirHeads}
 use Rattle.pc_graph.specs.Ways.{ways}
-use Rattle.pc_graph.proofs.Blocks.{Single, Block, done, single, branch, cycle, what_of, built, spans}
+use Rattle.pc_graph.proofs.Blocks.{Block, done, single, branch, cycle, what_of, built, spans}
 use Rattle.pc_graph.proofs.Listed.{body_of, made_is}
 
 -- an edge that leads up, or back to a point from lo on, below hi

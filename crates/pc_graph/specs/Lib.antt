@@ -1,5 +1,6 @@
 pub mod Ways
 pub mod Lowering
+pub mod Sides
 pub mod Drawn
 pub mod Rest
 pub mod Corresponds

@@ -12,7 +12,7 @@ use pc_program::{Right, form_of};
 use std::alloc::Global;
 
 /// What an assignment does.
-pub fn assigned(alloc: Global, n: u32, var: u32, right: &Right) -> What
+pub(crate) fn assigned(alloc: Global, n: u32, var: u32, right: &Right) -> What
     requires few { n ≤ VARIABLES }
     requires variable { var < n }
     requires sane { sane_right n right.now ≡ true }

@@ -10,15 +10,11 @@ mod draft;
 mod laws;
 mod lowering;
 mod row;
+mod side;
 
 pub use laws::{
     checks_stand_alone, choices_drive, graphs_are_kept, loop_free_graphs, loops_are_marked,
     loops_have_their_heads, owed_is_violated, paid_programs_are_safe, places_are_theirs,
-    rests_are_safe,
-    steps_correspond, straight_graphs, straight_is_loop_free,
+    rests_are_safe, steps_correspond, straight_graphs, straight_is_loop_free,
 };
 pub use lowering::lower;
-pub use pc_flow::{
-    Edge, Graph, PointInfo, TEST_ROWS, What, back, broken_has_walk, carrying_is_exact, entry_row,
-    owed_is_enough, owed_is_needed, paid_is_safe,
-};

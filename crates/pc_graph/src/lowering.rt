@@ -2,15 +2,15 @@
 
 ghost use Rattle.std.specs.Prelude.{◌≡◌, ◌<◌, ◌≤◌, ◌+◌, ◌^◌, OnOk, IfOk, true};
 ghost use Rattle.pc_rows.specs.declared.row.TheConstants.{VARIABLES};
-ghost use Rattle.pc_program.specs.Sane.{sane_stmt, sane_stmts, sane_test};
+ghost use Rattle.pc_program.specs.Sane.{sane_stmt, sane_stmts};
 ghost use Rattle.pc_program.specs.declared.tree.Stmt.TheVariants.{If, While};
-ghost use Rattle.pc_graph.specs.Drawn.{extended, branched, entered};
+ghost use Rattle.pc_graph.specs.Drawn.{extended, entered};
 ghost use Rattle.pc_graph.specs.Lowering.{rule, rules, graph};
-ghost use Rattle.pc_graph.specs.Ways.{ways};
 
 use crate::assembly::points;
 use crate::assignment::assigned;
 use crate::draft::Draft;
+use crate::side::Side;
 use pc_flow::{Graph, What};
 use pc_program::{Compare, Program, Stmt, Test, rows_of};
 use pc_text::{NoMemory, Place};
@@ -18,7 +18,7 @@ use std::alloc::Global;
 
 /// What the rule of a statement of a program with `n` variables makes.
 #[cycle(lowering)]
-fn lower_stmt(alloc: Global, n: u32, s: &Stmt, draft: &mut Draft) -> Result<(), NoMemory>
+fn lower_stmt(n: u32, s: &Stmt, draft: &mut Draft) -> Result<(), NoMemory>
     requires few { n ≤ VARIABLES }
     requires sane { sane_stmt n s.now ≡ true }
     requires room { (rule s.now draft.old.at draft.old.next).next < 2 ^ 32 }
@@ -26,15 +26,15 @@ fn lower_stmt(alloc: Global, n: u32, s: &Stmt, draft: &mut Draft) -> Result<(), 
 {
     match s {
         Stmt::Set { place, var, right } => {
-            let what = assigned(alloc, n, *var, right);
+            let what = assigned(draft.alloc, n, *var, right);
             draft.link(*place, what)
         }
         Stmt::Assert { place, all } => {
-            let rows = rows_of(alloc, all.as_slice())?;
+            let rows = rows_of(draft.alloc, all.as_slice())?;
             draft.link(*place, What::Check(rows))
         }
         Stmt::Assume { place, all } => {
-            let rows = rows_of(alloc, all.as_slice())?;
+            let rows = rows_of(draft.alloc, all.as_slice())?;
             draft.link(*place, What::Test(rows))
         }
         Stmt::If {
@@ -43,7 +43,6 @@ fn lower_stmt(alloc: Global, n: u32, s: &Stmt, draft: &mut Draft) -> Result<(), 
             then_part,
             else_part,
         } => lower_if(
-            alloc,
             n,
             *place,
             test,
@@ -56,22 +55,13 @@ fn lower_stmt(alloc: Global, n: u32, s: &Stmt, draft: &mut Draft) -> Result<(), 
             test,
             tried,
             body,
-        } => lower_while(
-            alloc,
-            n,
-            *place,
-            test,
-            tried.as_slice(),
-            body.as_slice(),
-            draft,
-        ),
+        } => lower_while(n, *place, test, tried.as_slice(), body.as_slice(), draft),
     }
 }
 
 /// The two sides of an `if`, and the point after them.
 #[cycle(lowering)]
 fn lower_if(
-    alloc: Global,
     n: u32,
     place: Place,
     test: &Test,
@@ -85,16 +75,17 @@ fn lower_if(
     ensures { OnOk result (draft.new ≡ extended draft.old (rule (If place test.now then_part.now else_part.now) draft.old.at draft.old.next)) }
 {
     let p = draft.at();
-    lower_side(alloc, n, then_part, p, place, test, true, false, draft)?;
+    draft.branch(n, p, place, test, Side::Then)?;
+    lower_list(n, then_part, draft)?;
     let t = draft.at();
-    lower_side(alloc, n, else_part, p, place, test, false, false, draft)?;
-    draft.join(alloc, place, t)
+    draft.branch(n, p, place, test, Side::Else)?;
+    lower_list(n, else_part, draft)?;
+    draft.join(place, t)
 }
 
 /// A `while`: its head is the present point, its block leads back there, and its exit to the next present point.
 #[cycle(lowering)]
 fn lower_while(
-    alloc: Global,
     n: u32,
     place: Place,
     test: &Test,
@@ -108,46 +99,24 @@ fn lower_while(
     ensures { OnOk result (draft.new ≡ extended draft.old (rule (While place test.now tried.now block.now) draft.old.at draft.old.next)) }
 {
     let p = draft.at();
-    let rows = rows_of(alloc, tried)?;
+    let rows = rows_of(draft.alloc, tried)?;
     draft.head(rows)?;
-    lower_side(alloc, n, block, p, place, test, true, true, draft)?;
-    draft.turn(alloc, p)?;
-    draft.branch(alloc, n, p, place, test, false, false)
-}
-
-/// The edges of one side of a test, from `p` to a new point, and the block from there.
-#[cycle(lowering)]
-fn lower_side(
-    alloc: Global,
-    n: u32,
-    list: &[Stmt],
-    p: u32,
-    place: Place,
-    test: &Test,
-    side: bool,
-    body: bool,
-    draft: &mut Draft,
-) -> Result<(), NoMemory>
-    requires few { n ≤ VARIABLES }
-    requires sane { sane_stmts n list.now ≡ true }
-    requires tested { sane_test n test.now ≡ true }
-    requires room { (rules list.now draft.old.next (draft.old.next + 1)).next < 2 ^ 32 }
-    ensures { OnOk result (draft.new ≡ extended (branched p place (ways test.now side) body draft.old) (rules list.now draft.old.next (draft.old.next + 1))) }
-{
-    draft.branch(alloc, n, p, place, test, side, body)?;
-    lower_list(alloc, n, list, draft)
+    draft.branch(n, p, place, test, Side::Body)?;
+    lower_list(n, block, draft)?;
+    draft.turn(p)?;
+    draft.branch(n, p, place, test, Side::Exit)
 }
 
 /// What the rules of statements make, one after the other.
 #[cycle(lowering)]
-fn lower_list(alloc: Global, n: u32, list: &[Stmt], draft: &mut Draft) -> Result<(), NoMemory>
+fn lower_list(n: u32, list: &[Stmt], draft: &mut Draft) -> Result<(), NoMemory>
     requires few { n ≤ VARIABLES }
     requires sane { sane_stmts n list.now ≡ true }
     requires room { (rules list.now draft.old.at draft.old.next).next < 2 ^ 32 }
     ensures { OnOk result (draft.new ≡ extended draft.old (rules list.now draft.old.at draft.old.next)) }
 {
     for s in list {
-        lower_stmt(alloc, n, s, draft)?;
+        lower_stmt(n, s, draft)?;
     }
     Ok(())
 }
@@ -159,8 +128,9 @@ pub fn lower(alloc: Global, p: &Program) -> Result<Graph, NoMemory>
     let variables = p.names.len();
     let params = p.names.params();
     let mut draft = entered(alloc, p.place, params)?;
-    lower_list(alloc, variables, p.body.as_slice(), &mut draft)?;
+    lower_list(variables, p.body.as_slice(), &mut draft)?;
     let Draft {
+        alloc: _,
         at: _,
         next: _,
         places,

@@ -12,7 +12,7 @@ use pc_text::NoMemory;
 use std::alloc::Global;
 
 /// Whether a test is one `!=`, which holds where one of two rows fails.
-pub fn is_lone(all: &[Compare]) -> bool
+pub(crate) fn is_lone(all: &[Compare]) -> bool
     ensures { result ≡ is_lone all.now }
 {
     match all {
@@ -22,7 +22,7 @@ pub fn is_lone(all: &[Compare]) -> bool
 }
 
 /// The negation of a row of a program, which is in range.
-pub fn negation(r: &Row) -> Row
+pub(crate) fn negation(r: &Row) -> Row
     requires { row_fits r.now ≡ true }
     ensures { result ≡ negation r.now }
 {
@@ -33,7 +33,7 @@ pub fn negation(r: &Row) -> Row
 }
 
 /// The list of one row.
-pub fn only(alloc: Global, row: Row) -> Result<Rows, NoMemory>
+pub(crate) fn only(alloc: Global, row: Row) -> Result<Rows, NoMemory>
     ensures { IfOk result (λ rows. rows ≡ row ∷ []) }
 {
     let mut rows = Rows::new(alloc);

@@ -1,19 +1,13 @@
-use Rattle.std.proofs.Common.{◌≡◌, ◌+◌, ◌<◌, subst, arith}
+use Rattle.std.proofs.Common.{◌≡◌, ◌<◌, ◌^◌, sym, subst, arith}
 use Rattle.std.proofs.lemmas.Result.{on_ok_weaker}
 use Rattle.pc_program.specs.Forms.{rows_all}
 use Rattle.pc_program.proofs.Weights.{weight, weights, item_smaller}
-use Rattle.pc_graph.proofs.Drawing.{if_done, while_done, then_room, doing_here, doing_next}
-use Rattle.pc_graph.proofs.Numbers.{rules_grow}
+use Rattle.pc_graph.specs.Drawn.{Drawn}
+use Rattle.pc_graph.specs.Lowering.{rules}
+use Rattle.pc_graph.proofs.Drawing.{if_done, while_done, if_rooms, then_room, while_room, doing_here, doing_next}
 use Rattle.pc_graph.proofs.Ready.{sane_slice, ready_few, assert_ready, assume_ready, if_ready, while_ready}
 use Rattle.pc_graph.proofs.Weights.{then_smaller}
 use Rattle.pc_graph.proofs.lowering.+lowering.Goals as goal
-
-pub lower_side-branch-draft-requires-clause-room : goal.lower_side-branch-draft-requires-clause-room
-lower_side-branch-draft-requires-clause-room t c =
-    let g = c.args.draft.now in
-    let h = rules_grow c.args.list.now g.next (g.next + 1) in
-    let r = c.requires.room in
-    omega arith
 
 pub lower_stmt-rows_of-requires-clause-sane : goal.lower_stmt-rows_of-requires-clause-sane
 lower_stmt-rows_of-requires-clause-sane t c =
@@ -44,20 +38,34 @@ pub lower_list-loop-s-preserved : goal.lower_list-loop-s-preserved
 lower_list-loop-s-preserved t c =
     doing_next c.args.n c.args.list.now c.loop-s.s-index c.s-item.result c.args.draft.now c.loop-s.draft _ c.loop-s-test.true c.s-item.is c.loop-s.invariant c.in_ok-lower_stmt.ensures
 
-pub lower_if-lower_side-requires : goal.lower_if-lower_side-requires
-lower_if-lower_side-requires t c =
+pub lower_if-branch-draft-requires-clause-room : goal.lower_if-branch-draft-requires-clause-room
+lower_if-branch-draft-requires-clause-room t c =
+    let a = c.args in
+    (if_rooms a.place a.test.now a.then_part.now a.else_part.now a.draft.now.at a.draft.now.next c.requires.room).0
+
+pub lower_if-lower_list-requires : goal.lower_if-lower_list-requires
+lower_if-lower_list-requires t c =
     let a = c.args in
     let xs = a.then_part.now in
     let ys = a.else_part.now in
     let smaller = then_smaller a.place a.test.now xs ys in
     let ready = if_ready a.n a.place a.test.now xs ys c.requires.sane in
-    (omega arith, (c.requires.few, (ready.1.0, (ready.0, then_room a.place a.test.now xs ys a.draft.now c.requires.room))))
+    let room = then_room a.place a.test.now xs ys a.draft.now c.requires.room in
+    (omega arith, (c.requires.few, (ready.1.0, subst (λ (d : Drawn). (rules xs d.at d.next).next < 2 ^ 32) (sym c.in_ok-branch.ensures) room)))
+
+pub lower_if-branch-draft-requires-2-clause-room : goal.lower_if-branch-draft-requires-2-clause-room
+lower_if-branch-draft-requires-2-clause-room t c =
+    let a = c.args in
+    let xs = a.then_part.now in
+    let room = (if_rooms a.place a.test.now xs a.else_part.now a.draft.now.at a.draft.now.next c.requires.room).1 in
+    subst (λ (d : Drawn). d.next < 4294967295) (sym c.in_ok-lower_list.ensures)
+    (subst (λ (d : Drawn). (rules xs d.at d.next).next < 4294967295) (sym c.in_ok-branch.ensures) room)
 
 pub lower_if-returns : goal.lower_if-returns
 lower_if-returns t c =
     let a = c.args in
-    on_ok_weaker c.join.result (λ h. if_done a.place a.test.now a.then_part.now a.else_part.now a.draft.now _ _ _ _ _
-    c.at-p.ensures c.in_ok-lower_side.ensures c.at-t.ensures c.in_ok-lower_side-2.ensures h) c.join.ensures
+    on_ok_weaker c.join.result (λ h. if_done a.place a.test.now a.then_part.now a.else_part.now a.draft.now _ _ _ _ _ _ _
+    c.at-p.ensures c.in_ok-branch.ensures c.in_ok-lower_list.ensures c.at-t.ensures c.in_ok-branch-2.ensures c.in_ok-lower_list-2.ensures h) c.join.ensures
 
 pub lower_while-rows_of-requires-clause-sane : goal.lower_while-rows_of-requires-clause-sane
 lower_while-rows_of-requires-clause-sane t c = let a = c.args in (while_ready a.n a.place a.test.now a.tried.now a.block.now c.requires.sane).1.0.1
@@ -65,8 +73,17 @@ lower_while-rows_of-requires-clause-sane t c = let a = c.args in (while_ready a.
 pub lower_while-branch-draft-requires-clause-sane : goal.lower_while-branch-draft-requires-clause-sane
 lower_while-branch-draft-requires-clause-sane t c = let a = c.args in (while_ready a.n a.place a.test.now a.tried.now a.block.now c.requires.sane).0
 
+pub lower_while-branch-draft-requires-2-clause-sane : goal.lower_while-branch-draft-requires-2-clause-sane
+lower_while-branch-draft-requires-2-clause-sane t c = let a = c.args in (while_ready a.n a.place a.test.now a.tried.now a.block.now c.requires.sane).0
+
+pub lower_while-branch-draft-requires-clause-room : goal.lower_while-branch-draft-requires-clause-room
+lower_while-branch-draft-requires-clause-room t c =
+    let a = c.args in
+    subst (λ (d : Drawn). d.next < 4294967295) (sym c.in_ok-head.ensures)
+    (while_room a.place a.test.now a.tried.now a.block.now a.draft.now.at a.draft.now.next c.requires.room)
+
 pub lower_while-returns : goal.lower_while-returns
 lower_while-returns t c =
     let a = c.args in
-    on_ok_weaker c.branch-draft.result (λ h. while_done a.place a.test.now a.tried.now a.block.now _ a.draft.now _ _ _ _ _
-    c.at-p.ensures c.in_ok-rows.ensures c.in_ok-head.ensures c.in_ok-lower_side.ensures c.in_ok-turn.ensures h) c.branch-draft.ensures
+    on_ok_weaker c.branch-draft-2.result (λ h. while_done a.place a.test.now a.tried.now a.block.now _ a.draft.now _ _ _ _ _ _
+    c.at-p.ensures c.in_ok-rows.ensures c.in_ok-head.ensures c.in_ok-branch.ensures c.in_ok-lower_list.ensures c.in_ok-turn.ensures h) c.branch-draft-2.ensures

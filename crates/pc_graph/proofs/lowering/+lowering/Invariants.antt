@@ -16,8 +16,5 @@ decreases-lower_if l = 2 * weight (If l.place l.test.now l.then_part.now l.else_
 abbrev pub decreases-lower_while : goal.decreases-lower_while
 decreases-lower_while l = 2 * weight (While l.place l.test.now l.tried.now l.block.now)
 
-abbrev pub decreases-lower_side : goal.decreases-lower_side
-decreases-lower_side l = 2 * weights l.list.now + 1
-
 abbrev pub decreases-lower_list : goal.decreases-lower_list
 decreases-lower_list l = 2 * weights l.list.now
