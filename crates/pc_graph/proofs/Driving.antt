@@ -137,7 +137,7 @@ module _ (p : Program) (s0 : State) (straight : are_straight p.body ≡ true) (l
       (single_meant (length p.names.names) h.place h.statement h.after (leaving e.from g) e h.sane (h.plain straight))))
   edge_meant e (inr (inr h)) =
       subst (λ (w : What). Meant (leaving e.from g) e w (ρ e.from) (ρ e.to)) (sym h.what)
-      (way_meant h.test h.side h.into h.way e.from h.then_at h.else_at (ρ e.from) h.then_list h.else_list (ρ e.to) ρ (leaving e.from g) e (h.plain straight) h.steps h.outs h.lies h.then_is h.else_is refl)
+      (way_meant h.test h.side h.into h.way e.from h.then_at h.else_at (ρ e.from) h.then_list h.else_list (ρ e.to) ρ (leaving e.from g) e (h.fork.plain straight) h.fork.steps h.fork.outs h.lies h.fork.then_is h.fork.else_is refl)
 
   meant : (e : Arc) → In e (made p).edges → Meant (leaving e.from g) e e.what (ρ e.from) (ρ e.to)
   meant e m = edge_meant e (known p e m)

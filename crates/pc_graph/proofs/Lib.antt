@@ -18,7 +18,6 @@ pub mod LoopFree
 pub mod StraightLoops
 pub mod Blocks
 pub mod Listed
-pub mod Parts
 pub mod Outs
 pub mod Known
 pub mod Draws

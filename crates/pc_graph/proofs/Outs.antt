@@ -5,7 +5,7 @@ use Rattle.std.specs.List.{AllByRecursion as Each}
 use Rattle.std.proofs.lemmas.Bool.Decides.{eqb_tells}
 use Rattle.std.proofs.lemmas.List.Elements.{filter-append}
 use Rattle.pc_rows.specs.Linear.{Linear}
-use Rattle.pc_rows.proofs.Joining.{each_left}
+use Rattle.pc_rows.proofs.Joining.{each_left, each_join}
 use Rattle.pc_flow.specs.Arc.{Arc, arc}
 use Rattle.pc_flow.specs.declared.what.What.{What}
 use Rattle.pc_flow.specs.declared.what.What.TheVariants.{Test}
@@ -14,7 +14,6 @@ use Rattle.pc_flow.proofs.Lists.{each_more}
 use Rattle.pc_graph.specs.Lowering.{Piece, tests, split, loop}
 use Rattle.pc_graph.specs.Ways.{ways}
 use Rattle.pc_graph.proofs.Blocks.{Block, done, single, branch, cycle, what_of, built, spans}
-use Rattle.pc_graph.proofs.Parts.{Parts, gathered}
 
 -- ---- where edges leave and lead
 
@@ -26,41 +25,41 @@ tests_from : (lo hi : ℕ) (b : Bool) (p q : ℕ) (ws : List (List Linear)) → 
 tests_from lo hi b p q [] l u h = tt
 tests_from lo hi b p q (w ∷ ws) l u h = ((l, omega arith, omega arith, h), tests_from lo hi b p q ws l u h)
 
-parts_from : (lo hi : ℕ) (b : Block) (p : ℕ) → lo ≤ p → (built b p (p + 1)).last ≤ hi → Parts (From lo hi) (From lo hi) b p
-parts_from lo hi done p l h = tt
-parts_from lo hi (single place x more) p l h =
+edges_from : (lo hi : ℕ) (b : Block) (p : ℕ) → lo ≤ p → (built b p (p + 1)).last ≤ hi → Each (From lo hi) (built b p (p + 1)).edges
+edges_from lo hi done p l h = tt
+edges_from lo hi (single place x more) p l h =
     let up = (spans more (p + 1)).up in
-    ((l, omega arith, omega arith, omega arith), parts_from lo hi more (p + 1) (omega arith) h)
-parts_from lo hi (branch place t xs ys more) p l h =
+    ((l, omega arith, omega arith, omega arith), edges_from lo hi more (p + 1) (omega arith) h)
+edges_from lo hi (branch place t xs ys more) p l h =
+    let F = From lo hi in
     let a = built xs (p + 1) (p + 1 + 1) in
     let b = built ys a.next (a.next + 1) in
     let f1 = (spans xs (p + 1)).up in
     let f2 = (spans xs (p + 1)).next in
     let g1 = (spans ys a.next).up in
     let g2 = (spans ys a.next).next in
-    let h1 = (spans more b.next).up in (
-      tests_from lo hi false p (p + 1) (ways t true) l (omega arith) (omega arith),
-      parts_from lo hi xs (p + 1) (omega arith) (omega arith),
-      tests_from lo hi false p a.next (ways t false) l (omega arith) (omega arith),
-      parts_from lo hi ys a.next (omega arith) (omega arith),
-      (omega arith, omega arith, omega arith, omega arith),
-      (omega arith, omega arith, omega arith, omega arith),
-      parts_from lo hi more b.next (omega arith) h,
-    )
-parts_from lo hi (cycle place t tried xs more) p l h =
+    let h1 = (spans more b.next).up in
+    each_join F (split place t p (p + 1) a b).edges _
+    (each_join F (tests false p (p + 1) (ways t true)) _ (tests_from lo hi false p (p + 1) (ways t true) l (omega arith) (omega arith))
+    (each_join F a.edges _ (edges_from lo hi xs (p + 1) (omega arith) (omega arith))
+    (each_join F (tests false p a.next (ways t false)) _ (tests_from lo hi false p a.next (ways t false) l (omega arith) (omega arith))
+    (each_join F b.edges _ (edges_from lo hi ys a.next (omega arith) (omega arith))
+    ((omega arith, omega arith, omega arith, omega arith), ((omega arith, omega arith, omega arith, omega arith), tt))))))
+    (edges_from lo hi more b.next (omega arith) h)
+edges_from lo hi (cycle place t tried xs more) p l h =
+    let F = From lo hi in
     let a = built xs (p + 1) (p + 1 + 1) in
     let f1 = (spans xs (p + 1)).up in
     let f2 = (spans xs (p + 1)).next in
-    let h1 = (spans more a.next).up in (
-      tests_from lo hi true p (p + 1) (ways t true) l (omega arith) (omega arith),
-      parts_from lo hi xs (p + 1) (omega arith) (omega arith),
-      (omega arith, omega arith, l, omega arith),
-      tests_from lo hi false p a.next (ways t false) l (omega arith) (omega arith),
-      parts_from lo hi more a.next (omega arith) h,
-    )
+    let h1 = (spans more a.next).up in
+    each_join F (loop place t tried p (p + 1) a).edges _
+    (each_join F (tests true p (p + 1) (ways t true)) _ (tests_from lo hi true p (p + 1) (ways t true) l (omega arith) (omega arith))
+    (each_join F a.edges _ (edges_from lo hi xs (p + 1) (omega arith) (omega arith))
+    ((omega arith, omega arith, l, omega arith), tests_from lo hi false p a.next (ways t false) l (omega arith) (omega arith))))
+    (edges_from lo hi more a.next (omega arith) h)
 
 pub ranged : (b : Block) (p : ℕ) → Each (From p (built b p (p + 1)).last) (built b p (p + 1)).edges
-ranged b p = let hi = (built b p (p + 1)).last in gathered (From p hi) b p (parts_from p hi b p (omega arith) (omega arith))
+ranged b p = edges_from p (built b p (p + 1)).last b p (omega arith) (omega arith)
 
 -- ---- the edges that leave a point
 

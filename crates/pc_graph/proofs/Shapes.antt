@@ -37,8 +37,8 @@ edge_over p e (inr (inl h)) = let v = length p.names.names in subst (OverAndFit 
 edge_over p e (inr (inr h)) =
     let v = length p.names.names in
     subst (OverAndFit v) (sym h.what) (
-      each_at (Each (IsOver v)) (ways h.test h.side) h.way (ways_over v h.test h.side h.sane) h.is,
-      each_at (λ w. length w ≤ TEST_ROWS) (ways h.test h.side) h.way (ways_few v h.test h.side h.sane) h.is,
+      each_at (Each (IsOver v)) (ways h.test h.side) h.way (ways_over v h.test h.side h.fork.sane) h.is,
+      each_at (λ w. length w ≤ TEST_ROWS) (ways h.test h.side) h.way (ways_few v h.test h.side h.fork.sane) h.is,
     )
 
 -- an edge leads up, or back to a head

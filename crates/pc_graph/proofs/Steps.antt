@@ -20,7 +20,7 @@ use Rattle.pc_graph.specs.Corresponds.{IsNoStep, IsStep}
 use Rattle.pc_graph.specs.Ways.{ways}
 use Rattle.pc_graph.proofs.Blocks.{Single, assigns, asserts, assumes, single_stmt, what_of, SaneSingle}
 use Rattle.pc_graph.proofs.Draws.{drawn_is}
-use Rattle.pc_graph.proofs.Known.{IsJoin, IsMove, IsKnown}
+use Rattle.pc_graph.proofs.Known.{IsLone, IsWay, IsJoin, IsKnown}
 use Rattle.pc_graph.proofs.TestWays.{ways_sound, holds_meets, meets_holds}
 use Rattle.pc_graph.proofs.Unrolled.{step-set, step-assert, step-assume}
 
@@ -76,14 +76,14 @@ module _ (v : ℕ) (ρ : ℕ → List Stmt) (g : List Arc) (straight : Bool) (He
   pub is_no_step : IsJoin v ρ g straight Heads Joins e → IsNoStep ρ e
   is_no_step h = (h.same, (λ s t pass. (subst (λ (w : What). Pass w s t) h.what pass).1))
 
-  pub is_step : IsMove v ρ g straight Heads Joins e → IsStep ρ e
+  pub is_step : IsLone v ρ g straight Heads Joins e ⊎ IsWay v ρ g straight Heads Joins e → IsStep ρ e
   is_step (inl h) s t pass =
       let one = single_moves v h.place h.statement h.after h.sane s t (subst (λ (w : What). Pass w s t) h.what pass) in
       (one.0, ap (λ (k : List Stmt). step k s one.0) h.here ∙ one.1 ∙ ap (λ (k : List Stmt). Going k t) (sym h.next))
   is_step (inr h) s t pass =
       let moved = subst (λ (w : What). Pass w s t) h.what pass in
-      let c = each_at (λ w. MeetsAll s w → (c : ℤ) × (chosen h.test s c ≡ h.side)) (ways h.test h.side) h.way (ways_sound v h.test h.side s h.sane) h.is moved.0 in
-      (c.0, h.steps s c.0 ∙ ap (λ (b : Bool). Going (cond b h.then_list h.else_list) s) c.1 ∙ ap (λ (k : List Stmt). Going k s) (sym h.next) ∙ ap (λ z. Going (ρ e.to) z) (sym moved.1))
+      let c = each_at (λ w. MeetsAll s w → (c : ℤ) × (chosen h.test s c ≡ h.side)) (ways h.test h.side) h.way (ways_sound v h.test h.side s h.fork.sane) h.is moved.0 in
+      (c.0, h.fork.steps s c.0 ∙ ap (λ (b : Bool). Going (cond b h.then_list h.else_list) s) c.1 ∙ ap (λ (k : List Stmt). Going k s) (sym h.next) ∙ ap (λ z. Going (ρ e.to) z) (sym moved.1))
 
   pub moves : IsKnown v ρ g straight Heads Joins e → (s t : State) → Pass e.what s t → Moves (ρ e.from) s (ρ e.to) t
   moves (inl h) s t pass = let same = is_no_step h in inl (same.0, same.1 s t pass)

@@ -35,7 +35,7 @@ any_free (test.All cs) b way any m = absurd (cc)
 edge_free : (p : Program) (e : Arc) → are_straight p.body ≡ true → IsKnownOf p e → NoRows e.what
 edge_free p e s (inl h) = subst (λ (w : What). NoRows w) (sym h.what) refl
 edge_free p e s (inr (inl h)) = subst (λ (w : What). NoRows w) (sym h.what) (single_free h.statement (h.plain s))
-edge_free p e s (inr (inr h)) = subst (λ (w : What). NoRows w) (sym h.what) (any_free h.test h.side h.way (h.plain s) h.is)
+edge_free p e s (inr (inr h)) = subst (λ (w : What). NoRows w) (sym h.what) (any_free h.test h.side h.way (h.fork.plain s) h.is)
 
 pub straight_graphs : StraightGraphs
 straight_graphs p s =

@@ -1,6 +1,6 @@
 -- The edges of the graph of a whole program.
-use Rattle.std.proofs.Common.{◌≡◌, ℕ, ◌+◌, ◌≤◌, List, [], ◌∷◌, length, true, sym, ap, subst, ◌∙◌, arith, inl, inr}
-use Rattle.std.specs.Prelude.{◌⊎◌, ◌==◌, ◌&&◌, nat_le, sum, map}
+use Rattle.std.proofs.Common.{◌≡◌, ℕ, ◌+◌, ◌≤◌, List, [], ◌∷◌, length, true, sym, ap, subst, ◌∙◌, arith}
+use Rattle.std.specs.Prelude.{◌==◌, ◌&&◌, nat_le, sum, map}
 use Rattle.std.specs.List.{AllByRecursion as Each, list_any}
 use Rattle.std.proofs.lemmas.Bool.{or_left, or_right, leb-true, and_parts}
 use Rattle.std.proofs.lemmas.Bool.Decides.{nat_tests}
@@ -17,11 +17,10 @@ use Rattle.pc_graph.specs.declared.draft.Loop.{Loop}
 use Rattle.pc_graph.specs.Lowering.{Piece, graph, made, no_steps}
 use Rattle.pc_graph.specs.Rest.{rest}
 use Rattle.pc_graph.specs.Straight.{are_straight}
-use Rattle.pc_graph.proofs.Blocks.{Sane, is_sane, Straight, are_so}
-use Rattle.pc_graph.proofs.Known.{IsJoin, IsMove, kinds}
+use Rattle.pc_graph.proofs.Blocks.{built, Sane, is_sane, Straight, are_so}
+use Rattle.pc_graph.proofs.Known.{IsJoin, IsKnown, Known, kinds}
 use Rattle.pc_graph.proofs.Listed.{body_of, body_is, made_is, program_listed}
 use Rattle.pc_graph.proofs.Outs.{From, Outs, outs, ranged, skip, other}
-use Rattle.pc_graph.proofs.Parts.{Parts, gathered, joins_gathered, parts_more}
 
 -- what a program keeps
 pub record Keeps (p : Program) : Type 0 where
@@ -57,8 +56,8 @@ module _ (p : Program) where
   abbrev pub IsJoinOf : Arc → Type 0
   IsJoinOf e = IsJoin (length p.names.names) (rest p) (graph p).edges (are_straight p.body) (HeadIn (made p).loops) (λ e. In e (no_steps p)) e
 
-  abbrev pub IsMoveOf : Arc → Type 0
-  IsMoveOf e = IsMove (length p.names.names) (rest p) (graph p).edges (are_straight p.body) (HeadIn (made p).loops) (λ e. In e (no_steps p)) e
+  abbrev pub IsKnownOf : Arc → Type 0
+  IsKnownOf e = IsKnown (length p.names.names) (rest p) (graph p).edges (are_straight p.body) (HeadIn (made p).loops) (λ e. In e (no_steps p)) e
 
   pub body_sane : Sane (length p.names.names) (body_of p)
   body_sane = is_sane (length p.names.names) (body_of p) (ap (sane_stmts (length p.names.names)) (body_is p) ∙ (keeps p).sane)
@@ -71,21 +70,17 @@ module _ (p : Program) where
       (λ q l h. skip q (arc 0 1 (Enter p.names.params) ∷ []) (made p).edges (other q 0 1 (Enter p.names.params) (λ same. omega arith)) ∙
       ap (λ (z : Piece). leaving q z.edges) (made_is p))
 
-  parts : Parts IsJoinOf IsMoveOf (body_of p) 1
-  parts = kinds (length p.names.names) (rest p) (graph p).edges (are_straight p.body) (HeadIn (made p).loops) (λ e. In e (no_steps p)) (body_of p) 1 []
+  all_known : Known (length p.names.names) (rest p) (graph p).edges (are_straight p.body) (HeadIn (made p).loops) (λ e. In e (no_steps p)) (built (body_of p) 1 2)
+  all_known = kinds (length p.names.names) (rest p) (graph p).edges (are_straight p.body) (HeadIn (made p).loops) (λ e. In e (no_steps p)) (body_of p) 1 []
       body_sane body_straight (program_listed p) body_outs
       (subst (λ (z : Piece). Each (λ l. HeadIn (made p).loops l.head) z.loops) (made_is p) (heads_in (made p).loops))
       (subst (λ (z : Piece). Each (λ e. In e (no_steps p)) z.joins) (made_is p) (each_in (made p).joins))
 
   pub joins_known : Each IsJoinOf (no_steps p)
-  joins_known = subst (λ (z : Piece). Each IsJoinOf z.joins) (sym (made_is p)) (joins_gathered IsJoinOf IsMoveOf (body_of p) 1 parts)
-
-  abbrev pub IsKnownOf : Arc → Type 0
-  IsKnownOf e = IsJoinOf e ⊎ IsMoveOf e
+  joins_known = subst (λ (z : Piece). Each IsJoinOf z.joins) (sym (made_is p)) all_known.joins
 
   pub edges_known : Each IsKnownOf (made p).edges
-  edges_known = subst (λ (z : Piece). Each IsKnownOf z.edges) (sym (made_is p))
-      (gathered IsKnownOf (body_of p) 1 (parts_more IsJoinOf IsKnownOf IsMoveOf IsKnownOf (λ e h. inl h) (λ e h. inr h) (body_of p) 1 parts))
+  edges_known = subst (λ (z : Piece). Each IsKnownOf z.edges) (sym (made_is p)) all_known.edges
 
   pub edges_ranged : Each (From 1 (made p).last) (made p).edges
   edges_ranged = subst (λ (z : Piece). Each (From 1 z.last) z.edges) (sym (made_is p)) (ranged (body_of p) 1)

@@ -12,7 +12,11 @@ use sqlite_items::Items;
 use std::alloc::Global;
 
 /// The points with these places, of which some are the heads of the loops.
-pub(crate) fn points(alloc: Global, loops: &[Loop], places: &[Place]) -> Result<Items<PointInfo>, NoMemory>
+pub(crate) fn points(
+    alloc: Global,
+    loops: &[Loop],
+    places: &[Place],
+) -> Result<Items<PointInfo>, NoMemory>
     requires { length places.now < 2 ^ 32 }
     ensures { IfOk result (λ points. points ≡ points_from loops.now 0 places.now) }
 {

@@ -96,7 +96,13 @@ impl Draft {
     }
 
     /// An edge.
-    pub(crate) fn edge(&mut self, from: u32, to: u32, what: What, body: bool) -> Result<(), NoMemory>
+    pub(crate) fn edge(
+        &mut self,
+        from: u32,
+        to: u32,
+        what: What,
+        body: bool,
+    ) -> Result<(), NoMemory>
         requires { IsFit what }
         ensures { OnOk result (self.new ≡ with_edge (marked body «from» to what) self.old) }
     {
