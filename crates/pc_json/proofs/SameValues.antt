@@ -1,21 +1,18 @@
 -- The value of a certificate determines the certificate.
-use Rattle.std.proofs.Common.{◌≡◌, ◌∙◌, ℕ, zero, suc, ◌+◌, ◌≤◌, ℤ, pos, List, [], ◌∷◌, length, map, get_or, take, Result, Ok, Err, refl, sym, ap, ap₂, arith, subst}
+use Rattle.std.proofs.Common.{◌≡◌, ◌∙◌, ℕ, zero, suc, ◌≤◌, ℤ, pos, List, [], ◌∷◌, length, get_or, take, Ok, Err, refl, sym, ap, ap₂, arith, subst}
 use Rattle.std.specs.List.{AllByRecursion, flat_map}
-use Rattle.serde_json.specs.Data.{Data, null, array, object, Members, member, no_members}
-use Rattle.pc_text.specs.Bytes.{Bytes}
-use Rattle.pc_rows.specs.declared.row.TheConstants.{VARIABLES}
+use Rattle.serde_json.specs.Data.{Data, null}
 use Rattle.pc_rows.specs.declared.proof.Part.{Part}
-use Rattle.pc_rows.specs.Linear.{Linear, IsOver}
+use Rattle.pc_rows.specs.Linear.{Linear}
 use Rattle.pc_rows.specs.Evidence.{Proof}
 use Rattle.pc_rows.proofs.Algebra.{same_row}
 use Rattle.pc_certificate.specs.declared.certificate.Annotated.{Annotated}
-use Rattle.pc_certificate.specs.Certificate.{Certificate, IsCertificate, IsShowable}
-use Rattle.pc_json.specs.declared.fault.JsonFault.{JsonFault}
+use Rattle.pc_certificate.specs.Certificate.{Certificate}
 use Rattle.pc_json.specs.declared.fault.JsonFault.TheVariants as fault
-use Rattle.pc_json.specs.Values.{of_numeral, of_all, of_part, of_parts, of_proof, of_proofs, of_edges, of_row, of_rows, of_points, of_alternative, of_certificate, row_numbers}
+use Rattle.pc_json.specs.Values.{of_numeral, of_all, of_part, of_proof, of_proofs, of_row, of_rows, of_alternative, of_certificate, row_numbers}
 use Rattle.pc_json.specs.Kept.{IsRowOver, AreRowsOver, IsAlternative, IsKept}
-use Rattle.pc_json.specs.Answers.{Means, Gives, SaysInJson, ValueDeterminesCertificate, ShownIsReadBack}
-use Rattle.pc_json.proofs.Injective.{same_numeral, same_count, same_items, same_part, same_map, same_all, head_or, tail_of}
+use Rattle.pc_json.specs.Answers.{ValueDeterminesCertificate, ShownIsReadBack}
+use Rattle.pc_json.proofs.Injective.{same_numeral, same_count, same_items, same_part, same_all, head_or, tail_of}
 use Rattle.pc_json.proofs.Keeping.{is_kept}
 use Rattle.pc_json.proofs.Whole.{one_value, members_in, first, rest}
 

@@ -7,8 +7,8 @@ pub fn value_determines_certificate()
     ensures { ValueDeterminesCertificate }
 {}
 
-/// Of bytes that say a certificate, as those that [`show_json`](crate::show_json) gives, each right
-/// answer is this certificate, unless memory is wanting.
+/// Of bytes that say a certificate each right answer of [`read_json`](crate::read_json) is this
+/// certificate, unless memory is wanting.
 pub fn shown_is_read_back()
     ensures { ShownIsReadBack }
 {}
