@@ -24,10 +24,13 @@ use Rattle.pc_poly.specs.Laws.{TellsReach}
 use Rattle.pc_poly.specs.Views.{poly_says}
 use Rattle.pc_poly.proofs.Chaining.{chains_are_exact}
 use Rattle.pc_facts.specs.Facts.{OfFold, IsFacts}
+use Rattle.pc_facts.specs.Lines.{shown}
 use Rattle.pc_words.specs.declared.domains.FactsDomain.TheVariants as domains
 use Rattle.pc_app.specs.Checks.{AreChecks}
-use Rattle.pc_app.specs.Known.{AreFacts}
+use Rattle.pc_app.specs.Subjects.{of_program}
+use Rattle.pc_app.specs.Facts.{FactsPrints}
 use Rattle.pc_app.proofs.ChainLemmas.{checks_are_chains, checks_are_free}
+use Rattle.pc_app.proofs.ShownLemmas.{rows_are_shown}
 
 module _ (g : Flow) (rows : List (List Linear)) (is : IsGraph g) (none : NoHeads g.points) (fold : OfFold box_says g rows) where
   boxes_are : IsTheBoxAt g fold.views
@@ -52,7 +55,7 @@ module _ (g : Flow) (rows : List (List Linear)) (is : IsGraph g) (none : NoHeads
       let told = length-map (boxes_of g) rows_of in
       same_items rows (map rows_of (boxes_of g)) (omega arith) (λ p lt. rows_at p (omega arith))
 
-boxes_are_facts : (p : Program) (text : Bytes) → IsFacts boxes (graph p) p.names.names text → AreFacts domains.Boxes p text
+boxes_are_facts : (p : Program) (text : Bytes) → IsFacts boxes (graph p) p.names.names text → FactsPrints domains.Boxes (of_program p) text
 boxes_are_facts p text is = record {
   rows = is.rows;
   known = record {
@@ -60,19 +63,22 @@ boxes_are_facts p text is = record {
     met = is.met;
     exact = λ free. let none = loop_free_graphs p free in rows_of_boxes (graph p) is.rows (graph_kept p) none (is.folded none);
   };
-  printed = is.printed;
+  text_is = is.printed;
 }
 
 module _ (p : Program) (rows : List (List Linear)) (fold : OfFold poly_says (graph p) rows) where
   -- on a chain of assertions and assumptions the rows tell which entry states come to a point
-  rows_of_checks : AreChecks p → (q : ℕ) (told : List Linear) → slice_get rows q ≡ Some told → TellsReach (graph p) q told
+  rows_of_checks : AreChecks p → (q : ℕ) (told : List Linear) → slice_get rows q ≡ Some told → TellsReach (graph p) q (shown (length p.names.names) told)
   rows_of_checks checks q told at =
       let long = fold.said.long in
       let e = fold.said.each q (let lt = slice_get_within rows q told at in omega arith) in
       let same : e.2.0 ≡ told = (let here = e.2.1 in cc) in
-      chains_are_exact (graph p) fold.views q e.0 told (graph_kept p) (checks_are_chains p checks) fold.fold e.1 (subst (poly_says.rows e.0) same e.2.2)
+      let said = subst (poly_says.rows e.0) same e.2.2 in
+      let chain = checks_are_chains p checks in
+      let tells = chains_are_exact (graph p) fold.views q e.0 told (graph_kept p) chain fold.fold e.1 said in
+      subst (TellsReach (graph p) q) (sym (rows_are_shown (graph p) fold.views (graph_kept p) chain fold.fold q e.0 told e.1 said)) tells
 
-polyhedra_are_facts : (p : Program) (text : Bytes) → IsFacts polyhedra (graph p) p.names.names text → AreFacts domains.Polyhedra p text
+polyhedra_are_facts : (p : Program) (text : Bytes) → IsFacts polyhedra (graph p) p.names.names text → FactsPrints domains.Polyhedra (of_program p) text
 polyhedra_are_facts p text is = record {
   rows = is.rows;
   known = record {
@@ -80,15 +86,15 @@ polyhedra_are_facts p text is = record {
     met = is.met;
     exact = λ checks. rows_of_checks p is.rows (is.folded (loop_free_graphs p (checks_are_free p checks))) checks;
   };
-  printed = is.printed;
+  text_is = is.printed;
 }
 
 -- what is told of the graph of a program
 module _ {E : Type 0} (p : Program) (g : Flow) (same : g ≡ graph p) where
-  pub facts_of_boxes : (r : Result Bytes E) → IfOk r (IsFacts boxes g p.names.names) → IfOk r (AreFacts domains.Boxes p)
+  pub facts_of_boxes : (r : Result Bytes E) → IfOk r (IsFacts boxes g p.names.names) → IfOk r (FactsPrints domains.Boxes (of_program p))
   facts_of_boxes (Ok text) is = boxes_are_facts p text (subst (λ (z : Flow). IsFacts boxes z p.names.names text) same is)
   facts_of_boxes (Err e) is = tt
 
-  pub facts_of_polyhedra : (r : Result Bytes E) → IfOk r (IsFacts polyhedra g p.names.names) → IfOk r (AreFacts domains.Polyhedra p)
+  pub facts_of_polyhedra : (r : Result Bytes E) → IfOk r (IsFacts polyhedra g p.names.names) → IfOk r (FactsPrints domains.Polyhedra (of_program p))
   facts_of_polyhedra (Ok text) is = polyhedra_are_facts p text (subst (λ (z : Flow). IsFacts polyhedra z p.names.names text) same is)
   facts_of_polyhedra (Err e) is = tt

@@ -21,7 +21,7 @@ has_bytes limit (Held bytes) taken from short = record { holds = whole limit byt
 -- a front that is too long is that of a file that is too long
 pub is_too_long :
     (limit : ℕ) (long : Bytes) (held : Holding) (taken : Bytes) (status : ℕ) (text : Bytes) →
-    TakenFrom held limit taken → limit < length taken → status ≡ TOO_LONG → text ≡ long → IsTooLong limit long held status text
+    TakenFrom held limit taken → limit < length taken → status ≡ TOO_LONG → text ≡ long → IsTooLong (λ bytes. limit) long held status text
 is_too_long limit long Untold taken status text from more s t = record { bytes = taken; holds = tt; more = more; status_is = s; text_is = t }
 is_too_long limit long Nothing taken status text from more s t = absurd from
 is_too_long limit long (Held bytes) taken status text from more s t =

@@ -12,7 +12,6 @@ use Rattle.pc_rows.specs.declared.system.TheConstants.{PREMISES}
 use Rattle.pc_language.specs.declared.limits.TheConstants.{EDGES}
 use Rattle.pc_program.specs.declared.program.Program.{Program}
 use Rattle.pc_program.specs.Sane.{is_sane, sane_stmts, edges_of}
-use Rattle.pc_flow.specs.Shape.{NoHeads}
 use Rattle.pc_graph.specs.Lowering.{graph}
 use Rattle.pc_graph.proofs.LoopFree.{loop_free_graphs}
 use Rattle.pc_graph.proofs.StraightLoops.{straight_is_loop_free}
@@ -34,7 +33,9 @@ use Rattle.pc_app.proofs.Programs.{accepted_programs_are_safe}
 use Rattle.pc_certify.specs.Inferring.{IsExact, IsAlternative}
 use Rattle.pc_app.proofs.Programs.{infer_is_exact}
 use Rattle.pc_app.specs.declared.limits.TheConstants.{ALTERNATIVES, CERTIFICATE_BYTES}
-use Rattle.pc_app.specs.Inferred.{IsCondition, HasViolation, IsNeeded, IsTameAndStraight, CoversGuesses, Inferred}
+use Rattle.pc_app.specs.Subjects.{HasViolation, of_program}
+use Rattle.pc_app.specs.Exactness.{IsNeeded, IsTameAndStraight}
+use Rattle.pc_app.specs.Inferred.{IsCondition, IsFound, Inferred}
 
 -- ---- what a program keeps
 
@@ -90,7 +91,7 @@ entries g all h =
     each_mapped (IsEntryOf g) (λ (a : Annotated). entry_rows a.rows) all
     (each_more (IsAlternative g) (λ (a : Annotated). IsEntryOf g (entry_rows a.rows)) (λ a is. subst (IsEntryOf g) (entry_is a) (is_entry g a is)) all h)
 
-small : (p : Program) (c : Certificate) → length c.alternatives ≤ ALTERNATIVES → AllByRecursion (IsAlternative (graph p)) c.alternatives → IsCondition p (condition_of c)
+small : (p : Program) (c : Certificate) → length c.alternatives ≤ ALTERNATIVES → AllByRecursion (IsAlternative (graph p)) c.alternatives → IsCondition (of_program p) (condition_of c)
 small p c few alternatives =
     let long = mapped_length (λ (a : Annotated). entry_rows a.rows) c.alternatives in
     let rows = entries (graph p) c.alternatives alternatives in
@@ -128,21 +129,22 @@ some_or_not s (rows ∷ condition) = by (all_or_not s rows) (some_or_not s condi
     by (inr h) (inl g) = inl (inr g)
     by (inr h) (inr g) = inr (λ m. elim m [ inl x ↦ h x | inr y ↦ g y ])
 
-needed : (p : Program) (c : Certificate) → Accepts (graph p) c → IsExact (graph p) c → IsTameAndStraight p → IsNeeded p (condition_of c)
+needed : (p : Program) (c : Certificate) → Accepts (graph p) c → IsExact (graph p) c → IsTameAndStraight (of_program p) → IsNeeded (of_program p) (condition_of c)
 needed p c accepts exact is s entry = by (some_or_not s (condition_of c))
   where
     by : MeetsSome s (condition_of c) ⊎ (MeetsSome s (condition_of c) → ⊥) → MeetsSome s (condition_of c) ⊎ HasViolation p s
     by (inl h) = inl h
     by (inr h) = inr ((infer_is_exact p c is.straight is.tame accepts exact s entry).violated h)
 
-pub inferred : (p : Program) (c : Certificate) → length c.alternatives ≤ ALTERNATIVES → Accepts (graph p) c → AllByRecursion (IsAlternative (graph p)) c.alternatives →
-    (NoHeads (graph p).points → IsExact (graph p) c) → CoversGuesses p (condition_of c) → Inferred p (condition_of c)
-inferred p c few accepts alternatives exact covers =
+pub inferred : (p : Program) (c : Certificate) → IsFound (graph p) c → Inferred (of_program p) c
+inferred p c is =
     record {
-      small = small p c few alternatives;
-      sound = accepted_programs_are_safe p c accepts;
-      exact = λ is. needed p c accepts (exact (loop_free_graphs p (straight_is_loop_free p is.straight))) is;
-      covers = covers;
+      accepted = is.accepted;
+      found = is.found;
+      small = small p c is.few is.found.rows;
+      sound = accepted_programs_are_safe p c is.accepted;
+      exact = λ tame. needed p c is.accepted (is.exact (loop_free_graphs p (straight_is_loop_free p tame.straight))) tame;
+      covering = is.covering;
     }
 
 -- ---- the length of the text

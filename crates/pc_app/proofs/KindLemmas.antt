@@ -1,5 +1,5 @@
--- The bytes of a file of each kind have one meaning or a fault.
-use Rattle.std.proofs.Common.{◌≡◌, Ok, Err, Some, None, Result, ◌⊎◌, inl, inr, refl, ℕ}
+-- The bytes of a file of each kind have a meaning or a fault.
+use Rattle.std.proofs.Common.{◌≡◌, Ok, Err, Some, None, Result, ◌⊎◌, inl, inr, refl, subst, ℕ}
 use Rattle.pc_text.specs.Bytes.{Bytes}
 use Rattle.pc_program.specs.declared.program.Program.{Program}
 use Rattle.pc_syntax.specs.Context.{content_of}
@@ -10,34 +10,46 @@ use Rattle.pc_certificate.specs.Certificate.{Certificate}
 use Rattle.pc_cert.specs.CertificateTexts.{IsTextOf}
 use Rattle.pc_cert.specs.Faults.{fault_of}
 use Rattle.pc_lines.specs.declared.fault.CertFault.{CertFault}
-use Rattle.pc_cert.proofs.Meaning.{each_text_has_one_answer, text_determines_certificate}
+use Rattle.pc_cert.proofs.Meaning.{each_text_has_one_answer}
 use Rattle.pc_runner.specs.Scripts.{Choosing, script_of}
 use Rattle.pc_runner.specs.declared.fault.ScriptFault.{ScriptFault}
+use Rattle.pc_app.specs.declared.status.TheConstants.{REFUSED, MALFORMED}
 use Rattle.pc_app.specs.Files.{Kind}
 use Rattle.pc_app.specs.Kinds.{source_kind, script_kind, certificate_kind}
 
--- bytes have a meaning or a fault, not both, and no two meanings but what are alike
-pub record IsDecided (kind : Kind) (Alike : kind.Meaning → kind.Meaning → Type 0) : Type 0 where
+-- bytes have a meaning or a fault, and not both; a file with a fault is refused, or malformed
+pub record IsDecided (kind : Kind) : Type 0 where
   pub total : (bytes : Bytes) → ((m : kind.Meaning) × kind.Means bytes m) ⊎ ((f : kind.Fault) × kind.Faulty bytes f)
   pub apart : (bytes : Bytes) (m : kind.Meaning) (f : kind.Fault) → kind.Means bytes m → kind.Faulty bytes f → ⊥
-  pub alike : (bytes : Bytes) (m n : kind.Meaning) → kind.Means bytes m → kind.Means bytes n → Alike m n
+  pub status : (kind.status ≡ REFUSED) ⊎ (kind.status ≡ MALFORMED)
 
--- ---- sources: programs are the same but for their proofs
+-- two kinds with one limit and one status, such that bytes mean something by both or by neither
+pub record AreAlike (k l : Kind) : Type 0 where
+  pub limit : (bytes : Bytes) → k.limit bytes ≡ l.limit bytes
+  pub status : k.status ≡ l.status
+  pub to : (bytes : Bytes) (x : k.Meaning) → k.Means bytes x → (y : l.Meaning) × l.Means bytes y
+  pub fro : (bytes : Bytes) (y : l.Meaning) → l.Means bytes y → (x : k.Meaning) × k.Means bytes x
 
-abbrev pub AreAlike : Program → Program → Type 0
-AreAlike p q = content_of p ≡ content_of q
+pub alike_self : (kind : Kind) → AreAlike kind kind
+alike_self kind = record { limit = λ bytes. refl; status = refl; to = λ bytes x means. (x, means); fro = λ bytes x means. (x, means) }
+
+-- ---- sources
 
 source_answer : (bytes : Bytes) (r : Result Program SourceFault) → Means bytes r → ((p : Program) × Spells bytes p) ⊎ ((f : SourceFault) × Faulty bytes f)
 source_answer bytes (Ok p) h = inl (p, h)
 source_answer bytes (Err f) h = inr (f, h)
 
-pub source_decided : IsDecided source_kind AreAlike
+pub source_decided : IsDecided source_kind
 source_decided =
     record {
       total = λ bytes. let x = each_text_has_one bytes in source_answer bytes x.0 x.1;
       apart = λ bytes p f spells faulty. each_text_has_no_more bytes (Ok p) (Err f) spells faulty;
-      alike = λ bytes p q spells spells'. each_text_has_no_more bytes (Ok p) (Ok q) spells spells';
+      status = inl refl;
     }
+
+-- programs that one text spells are the same but for their proofs
+pub one_content : (bytes : Bytes) (p q : Program) → Spells bytes p → Spells bytes q → content_of p ≡ content_of q
+one_content bytes p q spells spells' = each_text_has_no_more bytes (Ok p) (Ok q) spells spells'
 
 -- ---- scripts
 
@@ -48,16 +60,16 @@ script_answer params bytes (Err f) h = inr (f, h)
 script_apart : (params : ℕ) (bytes : Bytes) (c : Choosing) (f : ScriptFault) → script_of params bytes ≡ Ok c → script_of params bytes ≡ Err f → ⊥
 script_apart params bytes c f means faulty = cc
 
-script_alike : (params : ℕ) (bytes : Bytes) (c d : Choosing) → script_of params bytes ≡ Ok c → script_of params bytes ≡ Ok d → c ≡ d
-script_alike params bytes c d means means' = cc
-
-pub script_decided : (params : ℕ) → IsDecided (script_kind params) (λ c d. c ≡ d)
+pub script_decided : (params : ℕ) → IsDecided (script_kind params)
 script_decided params =
     record {
       total = λ bytes. script_answer params bytes (script_of params bytes) refl;
       apart = script_apart params;
-      alike = script_alike params;
+      status = inr refl;
     }
+
+pub scripts_alike : (m n : ℕ) → m ≡ n → AreAlike (script_kind m) (script_kind n)
+scripts_alike m n e = subst (λ (k : ℕ). AreAlike (script_kind m) (script_kind k)) e (alike_self (script_kind m))
 
 -- ---- certificates
 
@@ -75,10 +87,10 @@ text_has_no_fault b c f is faulty = by (each_text_has_one_answer b)
     by (inl x) = let none = x.2 in absurd (cc)
     by (inr x) = x.2 c is
 
-pub certificate_decided : IsDecided certificate_kind (λ c d. c ≡ d)
+pub certificate_decided : IsDecided certificate_kind
 certificate_decided =
     record {
       total = λ bytes. certificate_answer bytes (each_text_has_one_answer bytes);
       apart = text_has_no_fault;
-      alike = text_determines_certificate;
+      status = inr refl;
     }

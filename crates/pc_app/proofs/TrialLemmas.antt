@@ -12,8 +12,9 @@ use Rattle.pc_gen.specs.Made.{IsLoops, made}
 use Rattle.pc_gen.specs.Summary.{summary_text}
 use Rattle.pc_gen.specs.declared.summary.Summary.{Summary}
 use Rattle.pc_readback.proofs.MadeSpelled.{made_spells}
+use Rattle.pc_app.specs.Subjects.{of_program}
 use Rattle.pc_app.specs.Inferred.{Inferred}
-use Rattle.pc_app.specs.Trials.{IsSize, IsTrial}
+use Rattle.pc_app.specs.Trial.{IsSize, TrialPrints}
 
 is_memory : (f : SourceFault) → (f ≢ fault.NoMemory → ⊥) → f ≡ fault.NoMemory
 is_memory (fault.BadByte p b) h = absurd (h (λ e. cc))
@@ -41,17 +42,19 @@ only_memory loops source f h is only =
 
 -- ---- what is told
 
-pub told_is : (loops : ℕ) (source : Bytes) (p : Program) (c : Certificate) (summary : Summary) (text : Bytes) → source ≡ made loops → Spells source p →
-    Inferred p (condition_of c) → IsSize loops source p (length c.alternatives) summary →
-    text ≡ summary_text summary ++ condition_text p.names.names (condition_of c) → IsTrial loops text
-told_is loops source p c summary text is spelled inferred size printed =
+pub told_is : (loops : ℕ) (source : Bytes) (p : Program) (c : Certificate) (summary : Summary) (text : Bytes) → IsLoops loops → source ≡ made loops → Spells source p →
+    Inferred (of_program p) c → IsSize loops source (of_program p).flow (length c.alternatives) summary →
+    text ≡ summary_text summary ++ condition_text p.names.names (condition_of c) → TrialPrints loops text
+told_is loops source p c summary text fits is spelled inferred size printed =
     let many : length (condition_of c) ≡ length c.alternatives = length-map c.alternatives _ in
     record {
+      fits = fits;
       program = p;
       spelled = subst (λ (b : Bytes). Spells b p) is spelled;
-      condition = condition_of c;
+      certificate = c;
       inferred = inferred;
       summary = summary;
-      size = subst (λ (b : Bytes). IsSize loops b p (length (condition_of c)) summary) is (subst (λ (n : ℕ). IsSize loops source p n summary) (sym many) size);
-      printed = printed;
+      size = subst (λ (b : Bytes). IsSize loops b (of_program p).flow (length (condition_of c)) summary) is
+          (subst (λ (n : ℕ). IsSize loops source (of_program p).flow n summary) (sym many) size);
+      text_is = printed;
     }

@@ -4,7 +4,7 @@ use Rattle.std.proofs.lemmas.List.{drop_all}
 use Rattle.pc_text.specs.Bytes.{Bytes}
 use Rattle.pc_text.specs.Numerals.{numeral}
 use Rattle.pc_rows.proofs.Adding.{drop_at, drop_got}
-use Rattle.pc_app.specs.Verdicts.{values_text}
+use Rattle.pc_app.specs.Run.{values_text}
 
 no_values : (names : List Bytes) → values_text names [] ≡ []
 no_values [] = refl

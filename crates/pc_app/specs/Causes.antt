@@ -1,13 +1,9 @@
--- When words are answered by the statuses of files that are refused, and when by an outcome, where the files are told.
+-- Why files are answered by the statuses of files that mean nothing, and why they are not answered: by what is held under their names.
 use Rattle.std.specs.Prelude.{◌≡◌, ◌⊎◌, ◌<◌, ◌≤◌, ℕ, length}
-use Rattle.pc_ports.specs.Outside.{Holding, Untold, Nothing, Held}
+use Rattle.pc_ports.specs.Outside.{Holding, Untold, Nothing, Held, Rose}
 use Rattle.pc_text.specs.Bytes.{Bytes}
-use Rattle.pc_program.specs.declared.program.Program.{Program}
-use Rattle.pc_app.specs.declared.status.TheConstants.{DONE, FAILED, PAST}
 use Rattle.pc_app.specs.Files.{Kind, MayMean}
-use Rattle.pc_app.specs.Kinds.{source_kind, script_kind, certificate_kind}
-use Rattle.pc_app.specs.Answers.{Given}
-use Rattle.pc_words.specs.Words.{Order, Inputs, Made, Source, WithCertificate, WithScript, inputs_of}
+use Rattle.pc_app.specs.Inputs.{Inputs, NoFile, OneFile, TwoFiles, Given}
 
 -- what holds of the bytes that are held
 abbrev pub IsHeld : (Bytes → Type 0) → Holding → Type 0
@@ -17,77 +13,52 @@ IsHeld P (Held bytes) = P bytes
 
 -- the file holds more bytes than its limit
 abbrev pub IsOver : Kind → Holding → Type 0
-IsOver kind held = IsHeld (λ bytes. kind.limit < length bytes) held
+IsOver kind held = IsHeld (λ bytes. kind.limit bytes < length bytes) held
 
 -- the file holds bytes, no more than its limit, that mean nothing
 abbrev pub IsMeaningless : Kind → Holding → Type 0
-IsMeaningless kind held = IsHeld (λ bytes. (length bytes ≤ kind.limit) × ((m : kind.Meaning) → kind.Means bytes m → ⊥)) held
+IsMeaningless kind held = IsHeld (λ bytes. (length bytes ≤ kind.limit bytes) × ((m : kind.Meaning) → kind.Means bytes m → ⊥)) held
 
 -- the file holds bytes, no more than its limit, that mean something of which this holds
 abbrev pub IsMeant : (kind : Kind) → (kind.Meaning → Type 0) → Holding → Type 0
-IsMeant kind P held = IsHeld (λ bytes. (length bytes ≤ kind.limit) × ((m : kind.Meaning) × kind.Means bytes m × P m)) held
+IsMeant kind P held = IsHeld (λ bytes. (length bytes ≤ kind.limit bytes) × ((m : kind.Meaning) × kind.Means bytes m × P m)) held
 
--- a source is read as a program, of which this holds
-pub record Behind (source : Holding) (P : Program → Type 0) : Type 0 where
-  pub program : Program
-  pub spelled : MayMean source_kind source program
-  pub cause : P program
+-- a first file may hold bytes, no more than its limit, that mean something, of which this holds
+pub record Behind (kind : Kind) (held : Holding) (P : kind.Meaning → Type 0) : Type 0 where
+  pub meaning : kind.Meaning
+  pub meant : MayMean kind held meaning
+  pub cause : P meaning
 
--- more bytes than its limit are held under a name, of which the second counts only behind a program
+-- more bytes than its limit are held under a name, of which the second counts only behind a first file that means something
 abbrev pub AreTooLong : (Bytes → Holding) → Inputs → Type 0
-AreTooLong held (Made loops) = ⊥
-AreTooLong held (Source source) = IsOver source_kind (held source)
-AreTooLong held (WithCertificate source certificate) = IsOver source_kind (held source) ⊎ Behind (held source) (λ p. IsOver certificate_kind (held certificate))
-AreTooLong held (WithScript source script) = IsOver source_kind (held source) ⊎ Behind (held source) (λ p. IsOver (script_kind p.names.params) (held script))
+AreTooLong held NoFile = ⊥
+AreTooLong held (OneFile kind name) = IsOver kind (held name)
+AreTooLong held (TwoFiles first name second other) = IsOver first (held name) ⊎ Behind first (held name) (λ m. IsOver (second m) (held other))
 
--- the source spells no program
-abbrev pub AreRefused : (Bytes → Holding) → Inputs → Type 0
-AreRefused held (Made loops) = ⊥
-AreRefused held (Source source) = IsMeaningless source_kind (held source)
-AreRefused held (WithCertificate source certificate) = IsMeaningless source_kind (held source)
-AreRefused held (WithScript source script) = IsMeaningless source_kind (held source)
+-- the file means nothing, and this is the status of its kind
+abbrev pub HasFault : ℕ → Kind → Holding → Type 0
+HasFault status kind held = (kind.status ≡ status) × IsMeaningless kind held
 
--- the source spells a program, and the certificate or the script is none
-abbrev pub AreMalformed : (Bytes → Holding) → Inputs → Type 0
-AreMalformed held (Made loops) = ⊥
-AreMalformed held (Source source) = ⊥
-AreMalformed held (WithCertificate source certificate) = Behind (held source) (λ p. IsMeaningless certificate_kind (held certificate))
-AreMalformed held (WithScript source script) = Behind (held source) (λ p. IsMeaningless (script_kind p.names.params) (held script))
+-- a file with this status means nothing
+abbrev pub AreFaulty : ℕ → (Bytes → Holding) → Inputs → Type 0
+AreFaulty status held NoFile = ⊥
+AreFaulty status held (OneFile kind name) = HasFault status kind (held name)
+AreFaulty status held (TwoFiles first name second other) =
+    HasFault status first (held name) ⊎ Behind first (held name) (λ m. HasFault status (second m) (held other))
 
 -- each file is what it is to be, and this holds of what they mean
 abbrev pub AreMeant : (Bytes → Holding) → (inputs : Inputs) → (Given inputs → Type 0) → Type 0
-AreMeant held (Made loops) P = P tt
-AreMeant held (Source source) P = IsMeant source_kind P (held source)
-AreMeant held (WithCertificate source certificate) P = Behind (held source) (λ p. IsMeant certificate_kind (λ c. P (p, c)) (held certificate))
-AreMeant held (WithScript source script) P = Behind (held source) (λ p. IsMeant (script_kind p.names.params) (λ c. P (p, c)) (held script))
+AreMeant held NoFile P = P tt
+AreMeant held (OneFile kind name) P = IsMeant kind P (held name)
+AreMeant held (TwoFiles first name second other) P = Behind first (held name) (λ m. IsMeant (second m) (λ x. P (m, x)) (held other))
 
--- the same of the files of an order
-abbrev pub OrderIsTooLong : (Bytes → Holding) → Order → Type 0
-OrderIsTooLong held order = AreTooLong held (inputs_of order)
+-- the reading of a file failed, or the store tells that it lacks the file
+abbrev pub IsLost : Holding → ℕ → ℕ → Type 0
+IsLost held before now = Rose before now ⊎ (held ≡ Nothing)
 
-abbrev pub OrderIsRefused : (Bytes → Holding) → Order → Type 0
-OrderIsRefused held order = AreRefused held (inputs_of order)
-
-abbrev pub OrderIsMalformed : (Bytes → Holding) → Order → Type 0
-OrderIsMalformed held order = AreMalformed held (inputs_of order)
-
-abbrev pub OrderIsMeant : (Bytes → Holding) → Order → Type 0
-OrderIsMeant held order = AreMeant held (inputs_of order) (λ given. Unit {0})
-
--- the statuses of a ruling and of a verdict
-abbrev pub IsRuling : ℕ → Type 0
-IsRuling status = (status ≡ DONE) ⊎ (status ≡ FAILED)
-
-abbrev pub IsVerdict : ℕ → Type 0
-IsVerdict status = (status ≡ DONE) ⊎ ((status ≡ FAILED) ⊎ (status ≡ PAST))
-
--- the statuses where all files are read: a certificate is ruled on, a script gives a verdict
-abbrev pub IsEnd : Inputs → ℕ → Type 0
-IsEnd (Made loops) status = status ≡ DONE
-IsEnd (Source source) status = status ≡ DONE
-IsEnd (WithCertificate source certificate) status = IsRuling status
-IsEnd (WithScript source script) status = IsVerdict status
-
--- the statuses of an order that comes to its end
-abbrev pub IsOutcome : Order → ℕ → Type 0
-IsOutcome order status = IsEnd (inputs_of order) status
+-- files are read one after the other, and one of them is lost: a second file counts only behind a first one that may mean something
+abbrev pub AreLost : (Bytes → Holding) → ℕ → ℕ → Inputs → Type 0
+AreLost held before now NoFile = ⊥
+AreLost held before now (OneFile kind name) = IsLost (held name) before now
+AreLost held before now (TwoFiles first name second other) =
+    IsLost (held name) before now ⊎ Behind first (held name) (λ m. IsLost (held other) before now)

@@ -6,8 +6,8 @@ use Rattle.pc_app.specs.declared.status.TheConstants.{TOO_LONG}
 
 -- a kind of file
 pub record Kind : Type 1 where
-  -- the most bytes, and the line that tells of more
-  pub limit : ℕ
+  -- the most bytes, for bytes that begin as these do, and the line that tells of more
+  pub limit : Bytes → ℕ
   pub long : Bytes
   -- what bytes may mean
   pub Meaning : Type 0
@@ -32,21 +32,21 @@ pub record HasBytes (limit : ℕ) (held : Holding) (bytes : Bytes) : Type 0 wher
 -- the file may hold bytes that mean this
 pub record MayMean (kind : Kind) (held : Holding) (m : kind.Meaning) : Type 0 where
   pub bytes : Bytes
-  pub has : HasBytes kind.limit held bytes
+  pub has : HasBytes (kind.limit bytes) held bytes
   pub means : kind.Means bytes m
 
 -- a file that may hold too many bytes is answered
-pub record IsTooLong (limit : ℕ) (long : Bytes) (held : Holding) (status : ℕ) (text : Bytes) : Type 0 where
+pub record IsTooLong (limit : Bytes → ℕ) (long : Bytes) (held : Holding) (status : ℕ) (text : Bytes) : Type 0 where
   pub bytes : Bytes
   pub holds : MayHold held bytes
-  pub more : limit < length bytes
+  pub more : limit bytes < length bytes
   pub status_is : status ≡ TOO_LONG
   pub text_is : text ≡ long
 
 -- a file that may hold bytes with a fault is answered
 pub record IsFaulty (kind : Kind) (held : Holding) (status : ℕ) (text : Bytes) : Type 0 where
   pub bytes : Bytes
-  pub has : HasBytes kind.limit held bytes
+  pub has : HasBytes (kind.limit bytes) held bytes
   pub fault : kind.Fault
   pub faulty : kind.Faulty bytes fault
   pub status_is : status ≡ kind.status

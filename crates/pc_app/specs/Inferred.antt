@@ -1,53 +1,51 @@
--- What `infer` finds for a program: a condition on its entry states that suffices.
-use Rattle.std.specs.Prelude.{◌≡◌, ◌≤◌, ◌⊎◌, true, ℤ, List, length, All}
-use Rattle.pc_rows.specs.Linear.{IsOver, Linear, MeetsSome}
+-- What is inferred: a certificate, and what its condition promises.
+use Rattle.std.specs.Prelude.{◌≡◌, ◌≤◌, List, [], length, All}
+use Rattle.std.specs.List.{AllByRecursion}
+use Rattle.pc_rows.specs.Linear.{IsOver, Linear}
 use Rattle.pc_rows.specs.declared.rows.TheConstants.{ROWS}
-use Rattle.pc_text.specs.declared.place.Place.{Place}
-use Rattle.pc_program.specs.declared.program.Program.{Program}
-use Rattle.pc_rows.specs.Linear.{State}
-use Rattle.pc_program.specs.Machine.{Violated, run_of, Safe}
-use Rattle.pc_graph.specs.Lowering.{graph}
-use Rattle.pc_graph.specs.Straight.{are_straight}
+use Rattle.pc_flow.specs.Flow.{Flow}
+use Rattle.pc_flow.specs.Shape.{NoHeads}
 use Rattle.pc_lower.specs.declared.mode.Mode.{Mode}
-use Rattle.pc_lower.specs.Tame.{IsTame}
-use Rattle.pc_certify.specs.Inferring.{Covers}
+use Rattle.pc_certificate.specs.Certificate.{Certificate, condition_of, IsShowable}
+use Rattle.pc_replay.specs.Accepts.{Accepts}
+use Rattle.pc_certify.specs.Candidates.{Candidate, IsTried}
+use Rattle.pc_certify.specs.Inferring.{IsAlternative, HasNone, IsExact, Covers}
+use Rattle.pc_certify.specs.Selecting.{AreApart}
 use Rattle.pc_app.specs.declared.limits.TheConstants.{ALTERNATIVES}
-
--- an entry state of a program gives an integer to each parameter
-abbrev pub IsEntry : Program → State → Type 0
-IsEntry p s = length s ≡ p.names.params
+use Rattle.pc_app.specs.Subjects.{Subject}
+use Rattle.pc_app.specs.Suffices.{Suffices}
+use Rattle.pc_app.specs.Exactness.{IsNeeded, IsTameAndStraight}
+use Rattle.pc_app.specs.Covering.{CoversGuesses}
 
 -- a condition over the parameters: a list of alternatives, each a list of rows, that is no larger than may be printed
-pub record IsCondition (p : Program) (condition : List (List Linear)) : Type 0 where
+pub record IsCondition (subject : Subject) (condition : List (List Linear)) : Type 0 where
   pub alternatives : length condition ≤ ALTERNATIVES
   pub rows : All (λ rows. length rows ≤ ROWS) condition
-  pub parameters : All (All (IsOver p.names.params)) condition
+  pub parameters : All (All (IsOver subject.flow.params)) condition
 
--- every entry state that meets the condition is safe
-abbrev pub Suffices : Program → List (List Linear) → Type 0
-Suffices p condition = (s : State) → IsEntry p s → MeetsSome s condition → Safe p s
+-- where the alternatives of a certificate come from: each is a candidate, with its rows at the entry reduced; none is found to be needless
+-- beside another one; there is no more than one without loops; and where there is none, each candidate that is tried has a cause
+pub record AreFound (g : Flow) (c : Certificate) : Type 0 where
+  pub rows : AllByRecursion (IsAlternative g) c.alternatives
+  pub apart : AreApart c.alternatives
+  pub one : NoHeads g.points → length c.alternatives ≤ 1
+  pub none : c.alternatives ≡ [] → (k : Candidate) → IsTried g k → HasNone g k
 
--- from the entry state some list of choices leads to a violated assertion
-abbrev pub HasViolation : Program → State → Type 0
-HasViolation p s = (cs : List ℤ) × (q : Place) × (run_of p s cs ≡ Violated q)
+-- what is found of a graph: a certificate that has a text and is right, where its alternatives come from, and how weak its condition is
+pub record IsFound (g : Flow) (c : Certificate) : Type 0 where
+  pub accepted : Accepts g c
+  pub showable : IsShowable c
+  pub few : length c.alternatives ≤ ALTERNATIVES
+  pub found : AreFound g c
+  pub exact : NoHeads g.points → IsExact g c
+  pub covering : (m : Mode) → Covers g m (condition_of c)
 
--- from every entry state that does not meet the condition some list of choices leads to a violated assertion
-abbrev pub IsNeeded : Program → List (List Linear) → Type 0
-IsNeeded p condition = (s : State) → IsEntry p s → MeetsSome s condition ⊎ HasViolation p s
-
--- a program without loops, assumptions and tests but `*`, all of whose numbers are small on the way back
-pub record IsTameAndStraight (p : Program) : Type 0 where
-  pub straight : are_straight p.body ≡ true
-  pub tame : IsTame (graph p)
-
--- every state that meets a guess at the rows of the program's loops at the entry meets the condition, where the guess is promised
--- to be found: its numbers are tame, and what is owed at the heads of loops has multipliers and is asked modestly
-abbrev pub CoversGuesses : Program → List (List Linear) → Type 0
-CoversGuesses p condition = (m : Mode) → Covers (graph p) m condition
-
--- a condition for a program: it suffices, it is needed where the program is tame and straight, and no promised guess is lost
-pub record Inferred (p : Program) (condition : List (List Linear)) : Type 0 where
-  pub small : IsCondition p condition
-  pub sound : Suffices p condition
-  pub exact : IsTameAndStraight p → IsNeeded p condition
-  pub covers : CoversGuesses p condition
+-- a certificate that is right, and where its alternatives come from; its condition suffices, is needed where the subject is tame and straight,
+-- and loses no promised guess
+pub record Inferred (subject : Subject) (c : Certificate) : Type 0 where
+  pub accepted : Accepts subject.flow c
+  pub found : AreFound subject.flow c
+  pub small : IsCondition subject (condition_of c)
+  pub sound : Suffices subject (condition_of c)
+  pub exact : IsTameAndStraight subject → IsNeeded subject (condition_of c)
+  pub covering : CoversGuesses subject (condition_of c)

@@ -18,7 +18,7 @@ use Rattle.pc_app.specs.Texts.{source_too_long, script_too_long, certificate_too
 abbrev pub source_kind : Kind
 source_kind =
     record {
-      limit = SOURCE_BYTES;
+      limit = λ bytes. SOURCE_BYTES;
       long = source_too_long;
       Meaning = Program;
       Means = Spells;
@@ -32,7 +32,7 @@ source_kind =
 abbrev pub script_kind : ℕ → Kind
 script_kind params =
     record {
-      limit = SCRIPT_BYTES;
+      limit = λ bytes. SCRIPT_BYTES;
       long = script_too_long;
       Meaning = Choosing;
       Means = λ bytes c. script_of params bytes ≡ Ok c;
@@ -46,7 +46,7 @@ script_kind params =
 abbrev pub certificate_kind : Kind
 certificate_kind =
     record {
-      limit = CERTIFICATE_BYTES;
+      limit = λ bytes. CERTIFICATE_BYTES;
       long = certificate_too_long;
       Meaning = Certificate;
       Means = IsTextOf;

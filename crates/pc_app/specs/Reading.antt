@@ -7,11 +7,11 @@ use Rattle.pc_runner.specs.declared.script.Script.{Script}
 use Rattle.pc_app.specs.declared.answer.Answer.{Answer}
 use Rattle.pc_app.specs.declared.answer.Stop.{Stop}
 use Rattle.pc_app.specs.declared.answer.Stop.TheVariants as stop
-use Rattle.pc_app.specs.Files.{Kind, MayMean, IsUnread}
+use Rattle.pc_app.specs.Files.{Kind, MayMean, IsUnread, OnFile}
 use Rattle.pc_app.specs.Kinds.{script_kind}
-use Rattle.pc_app.specs.Answers.{OrderAnswers, Answers}
-use Rattle.pc_app.specs.Silences.{IsLost, OrderIsLost, LacksFile}
-use Rattle.pc_words.specs.Words.{Order}
+use Rattle.pc_app.specs.Causes.{IsLost, AreLost}
+use Rattle.pc_app.specs.Tasks.{Task}
+use Rattle.pc_app.specs.Answers.{TaskAnswers, Answers, LacksFile}
 
 -- why a call goes no further: an answer, or a file that is lost; want of memory is free
 abbrev pub Stops : (ℕ → Bytes → Type 0) → Type 0 → Stop → Type 0
@@ -37,13 +37,13 @@ abbrev pub Answered : (ℕ → Bytes → Type 0) → Type 0 → Result Answer St
 Answered A Lost (Ok a) = A a.status a.text
 Answered A Lost (Err e) = Stops A Lost e
 
--- something has its answer, which a further file may keep it from
-abbrev pub WithFile : (ℕ → Bytes → Type 0) → Holding → ℕ → ℕ → Result Answer Stop → Type 0
-WithFile A held before now r = Answered A (IsLost held before now) r
+-- a command has its answer
+pub record TaskIs (held : Bytes → Holding) (before now : ℕ) (task : Task) (r : Result Answer Stop) : Type 0 where
+  pub answered : Answered (TaskAnswers held task) (AreLost held before now task.inputs) r
 
--- an order has its answer
-abbrev pub OrderIs : (Bytes → Holding) → ℕ → ℕ → Order → Result Answer Stop → Type 0
-OrderIs held before now order r = Answered (OrderAnswers held order) (OrderIsLost held before now order) r
+-- what a first file means has its answer, which a second file may keep it from
+pub record RestIs (kind : Kind) (A : kind.Meaning → ℕ → Bytes → Type 0) (held : Holding) (before now : ℕ) (r : Result Answer Stop) : Type 0 where
+  pub answered : Answered (OnFile kind A held) (IsLost held before now) r
 
 -- words have their answer
 abbrev pub WordsAre : List Bytes → (Bytes → Holding) → ℕ → ℕ → Result Answer Stop → Type 0

@@ -4,14 +4,16 @@ ghost use Rattle.std.specs.Prelude.{◌≡◌, ℕ, List, map, string_bytes, IfO
 ghost use Rattle.std.specs.List.{AllByRecursion};
 ghost use Rattle.pc_gen.specs.Made.{IsLoops};
 ghost use Rattle.pc_words.specs.Words.{Order, IsOrder, IsPlain, inputs_of, loops_in, ordered};
-ghost use Rattle.pc_app.specs.Reading.{OrderIs, WordsAre};
+ghost use Rattle.pc_app.specs.Table.{task_of};
+ghost use Rattle.pc_app.specs.Reading.{TaskIs, WordsAre};
 
-use crate::facts::answer_to_facts;
-use crate::infer::{answer_to_certify, answer_to_infer};
-use crate::quick::answer_to_quick;
+use crate::facts::FactsOf;
+use crate::infer::{CertificateOf, Condition};
+use crate::printing::answer_to_source;
+use crate::quick::QuickOf;
 use crate::replay::answer_to_replay;
 use crate::run::answer_to_run;
-use crate::show::answer_to_show;
+use crate::show::Canonical;
 use crate::status::USAGE;
 use crate::trial::answer_to_trial;
 use pc_ports::Store;
@@ -85,7 +87,7 @@ fn answer_to_others<S: Store>(
 /// The answer to a list of words that others are taken as.
 fn answer_to_taken<S: Store>(alloc: Global, list: &[String], store: &mut S) -> Result<Answer, Stop>
     requires { IsPlain (map string_bytes list.now) }
-    ensures answered { (order : Order) → IsOrder (map string_bytes list.now) order → OrderIs (S.holding store.old) (S.faults store.old) (S.faults store.new) order result }
+    ensures answered { (order : Order) → IsOrder (map string_bytes list.now) order → TaskIs (S.holding store.old) (S.faults store.old) (S.faults store.new) (task_of order) result }
     ensures kept { (name : List ℕ) → S.holding store.new name ≡ S.holding store.old name }
 {
     match command_of(list) {
@@ -101,21 +103,25 @@ fn answer_to_command<S: Store>(
     store: &mut S,
 ) -> Result<Answer, Stop>
     requires { AllByRecursion IsLoops (loops_in (inputs_of (ordered command))) }
-    ensures answered { OrderIs (S.holding store.old) (S.faults store.old) (S.faults store.new) (ordered command.entry) result }
+    ensures answered { TaskIs (S.holding store.old) (S.faults store.old) (S.faults store.new) (task_of (ordered command.entry)) result }
     ensures kept { (name : List ℕ) → S.holding store.new name ≡ S.holding store.old name }
 {
     match command {
-        Command::Infer { source } => answer_to_infer(alloc, source, store),
-        Command::Certify { source } => answer_to_certify(alloc, source, store),
+        Command::Infer { source } => answer_to_source(alloc, &Condition, source, store),
+        Command::Certify { source } => answer_to_source(alloc, &CertificateOf, source, store),
         Command::Replay {
             source,
             certificate,
         } => answer_to_replay(alloc, source, certificate, store),
         Command::Run { source, script } => answer_to_run(alloc, source, script, store),
-        Command::Facts { domain, source } => answer_to_facts(alloc, domain, source, store),
-        Command::Quick { domain, source } => answer_to_quick(alloc, domain, source, store),
-        Command::Show { source } => answer_to_show(alloc, source, store),
-        Command::Trial { loops } => Ok(answer_to_trial(alloc, loops)?),
+        Command::Facts { domain, source } => {
+            answer_to_source(alloc, &FactsOf { domain }, source, store)
+        }
+        Command::Quick { domain, source } => {
+            answer_to_source(alloc, &QuickOf { domain }, source, store)
+        }
+        Command::Show { source } => answer_to_source(alloc, &Canonical, source, store),
+        Command::Trial { loops } => answer_to_trial(alloc, loops, store),
     }
 }
 

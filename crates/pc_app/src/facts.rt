@@ -1,47 +1,40 @@
 //! What the words `facts` are answered: what a domain knows at each point.
 
-ghost use Rattle.std.specs.Prelude.{◌≡◌, ℕ, List, IfOk};
+ghost use Rattle.std.specs.Prelude.{IfOk};
 ghost use Rattle.pc_box.specs.contracts.member.Box16Forward.TheImpl.{ghosts as boxes};
 ghost use Rattle.pc_poly.specs.contracts.member.PolyForward.TheImpl.{ghosts as polyhedra};
 ghost use Rattle.pc_facts.specs.Facts.{IsFacts};
-ghost use Rattle.pc_app.specs.Known.{AreFacts};
-ghost use Rattle.pc_app.specs.Reading.{OrderIs};
-ghost use Rattle.pc_words.specs.Words.{Facts};
+ghost use Rattle.pc_app.specs.Subjects.{of_program};
+ghost use Rattle.pc_app.specs.Facts.{FactsPrints};
 
-use crate::answer::{Answer, Stop};
-use crate::files::source_in;
-use crate::status::DONE;
+use crate::printing::Prints;
 use pc_box::Box16;
 use pc_facts::show_facts;
 use pc_flow::Graph;
 use pc_graph::lower;
 use pc_poly::Poly;
-use pc_ports::Store;
 use pc_program::Program;
 use pc_text::{Names, NoMemory, Text};
 use pc_words::FactsDomain;
 use std::alloc::Global;
 
-/// The answer to `facts`.
-pub(crate) fn answer_to_facts<S: Store>(
-    alloc: Global,
-    domain: FactsDomain,
-    source: &str,
-    store: &mut S,
-) -> Result<Answer, Stop>
-    ensures answered { OrderIs (S.holding store.old) (S.faults store.old) (S.faults store.new) (Facts domain source.now) result }
-    ensures kept { (name : List ℕ) → S.holding store.new name ≡ S.holding store.old name }
-{
-    let program = source_in(alloc, source, store)?;
-    Ok(Answer {
-        status: DONE,
-        text: facts_of(alloc, domain, &program)?,
-    })
+/// `facts F --domain=D`.
+#[derive(Drop)]
+pub(crate) struct FactsOf {
+    pub(crate) domain: FactsDomain,
+}
+
+impl Prints for FactsOf {
+    ghost prints = { λ command p. FactsPrints command.domain (of_program p) };
+
+    fn text(&self, alloc: Global, program: &Program) -> Result<Text, NoMemory> {
+        facts_of(alloc, self.domain, program)
+    }
 }
 
 /// What a domain knows at each point of a program.
 fn facts_of(alloc: Global, domain: FactsDomain, program: &Program) -> Result<Text, NoMemory>
-    ensures { IfOk result (AreFacts domain program.now) }
+    ensures { IfOk result (FactsPrints domain (of_program program.now)) }
 {
     let graph = lower(alloc, program)?;
     match domain {

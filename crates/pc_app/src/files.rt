@@ -3,7 +3,7 @@
 ghost use Rattle.std.specs.Prelude.{◌≡◌, ◌≤◌, ◌<◌, ℕ, List, IfOk, IfErr};
 ghost use Rattle.pc_app.specs.Files.{HasBytes, IsTooLong};
 ghost use Rattle.pc_app.specs.Kinds.{source_kind, certificate_kind};
-ghost use Rattle.pc_app.specs.Silences.{IsLost};
+ghost use Rattle.pc_app.specs.Causes.{IsLost};
 ghost use Rattle.pc_app.specs.Reading.{Stops, FileIs, ScriptIs};
 
 use crate::answer::{Answer, Stop, one_line};
@@ -29,7 +29,7 @@ fn bytes_in<S: Store>(
 ) -> Result<Vec<u8>, Stop>
     requires { limit < usize.MAX }
     ensures bytes { IfOk result (λ bytes. HasBytes limit (S.holding store.old name.now) bytes.items) }
-    ensures stops { IfErr result (λ e. Stops (IsTooLong limit long.now (S.holding store.old name.now)) (IsLost (S.holding store.old name.now) (S.faults store.old) (S.faults store.new)) e) }
+    ensures stops { IfErr result (λ e. Stops (IsTooLong (λ _. limit) long.now (S.holding store.old name.now)) (IsLost (S.holding store.old name.now) (S.faults store.old) (S.faults store.new)) e) }
     ensures counted { S.faults store.old ≤ S.faults store.new }
     ensures kept { (n : List ℕ) → S.holding store.new n ≡ S.holding store.old n }
 {

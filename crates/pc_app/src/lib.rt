@@ -8,6 +8,7 @@ mod infer;
 mod laws;
 mod limits;
 mod malformed;
+mod printing;
 mod quick;
 mod refusal;
 mod replay;

@@ -1,47 +1,40 @@
 //! What the words `quick` are answered: the condition that a domain finds going back.
 
-ghost use Rattle.std.specs.Prelude.{◌≡◌, ◌≤◌, ℕ, List, length, IfOk};
+ghost use Rattle.std.specs.Prelude.{◌≤◌, length, IfOk};
 ghost use Rattle.pc_back.specs.contracts.member.NeedBackward.TheImpl.{ghosts as needs};
 ghost use Rattle.pc_box.specs.contracts.backward.Box16Backward.TheImpl.{ghosts as boxes};
 ghost use Rattle.pc_facts.specs.Quick.{IsQuick};
-ghost use Rattle.pc_app.specs.Enough.{AreEnough};
-ghost use Rattle.pc_app.specs.Reading.{OrderIs};
-ghost use Rattle.pc_words.specs.Words.{Quick};
+ghost use Rattle.pc_app.specs.Subjects.{of_program};
+ghost use Rattle.pc_app.specs.Quick.{QuickPrints};
 
-use crate::answer::{Answer, Stop};
-use crate::files::source_in;
-use crate::status::DONE;
+use crate::printing::Prints;
 use pc_back::Need;
 use pc_box::Box16;
 use pc_flow::Graph;
 use pc_graph::lower;
-use pc_ports::Store;
 use pc_program::Program;
 use pc_facts::show_quick;
 use pc_text::{Names, NoMemory, Text};
 use pc_words::QuickDomain;
 use std::alloc::Global;
 
-/// The answer to `quick`.
-pub(crate) fn answer_to_quick<S: Store>(
-    alloc: Global,
-    domain: QuickDomain,
-    source: &str,
-    store: &mut S,
-) -> Result<Answer, Stop>
-    ensures answered { OrderIs (S.holding store.old) (S.faults store.old) (S.faults store.new) (Quick domain source.now) result }
-    ensures kept { (name : List ℕ) → S.holding store.new name ≡ S.holding store.old name }
-{
-    let program = source_in(alloc, source, store)?;
-    Ok(Answer {
-        status: DONE,
-        text: condition_of(alloc, domain, &program)?,
-    })
+/// `quick F --domain=D`.
+#[derive(Drop)]
+pub(crate) struct QuickOf {
+    pub(crate) domain: QuickDomain,
+}
+
+impl Prints for QuickOf {
+    ghost prints = { λ command p. QuickPrints command.domain (of_program p) };
+
+    fn text(&self, alloc: Global, program: &Program) -> Result<Text, NoMemory> {
+        condition_of(alloc, self.domain, program)
+    }
 }
 
 /// The condition that a domain finds for a program.
 fn condition_of(alloc: Global, domain: QuickDomain, program: &Program) -> Result<Text, NoMemory>
-    ensures { IfOk result (AreEnough domain program.now) }
+    ensures { IfOk result (QuickPrints domain (of_program program.now)) }
 {
     let graph = lower(alloc, program)?;
     match domain {

@@ -2,9 +2,10 @@
 
 ghost use Rattle.std.specs.Prelude.{◌≡◌, ◌≤◌, ℕ, List, IfOk};
 ghost use Rattle.pc_graph.specs.Lowering.{graph};
-ghost use Rattle.pc_app.specs.Answers.{OnReplay, ReplayAnswers};
-ghost use Rattle.pc_app.specs.Reading.{OrderIs, WithFile};
-ghost use Rattle.pc_words.specs.Words.{Replay};
+ghost use Rattle.pc_app.specs.Kinds.{certificate_kind};
+ghost use Rattle.pc_app.specs.Subjects.{of_program};
+ghost use Rattle.pc_app.specs.Replay.{ReplaySays, replay};
+ghost use Rattle.pc_app.specs.Reading.{TaskIs, RestIs};
 
 use crate::answer::{Answer, Stop};
 use crate::files::{certificate_in, source_in};
@@ -25,7 +26,7 @@ pub(crate) fn answer_to_replay<S: Store>(
     certificate: &str,
     store: &mut S,
 ) -> Result<Answer, Stop>
-    ensures answered { OrderIs (S.holding store.old) (S.faults store.old) (S.faults store.new) (Replay source.now certificate.now) result }
+    ensures answered { TaskIs (S.holding store.old) (S.faults store.old) (S.faults store.new) (replay source.now certificate.now) result }
     ensures kept { (name : List ℕ) → S.holding store.new name ≡ S.holding store.old name }
 {
     let program = source_in(alloc, source, store)?;
@@ -43,7 +44,7 @@ fn replay_program<S: Store>(
     store: &mut S,
 ) -> Result<Answer, Stop>
     requires { g.now ≡ graph program.now }
-    ensures answered { WithFile (OnReplay (S.holding store.old certificate.now) program.now) (S.holding store.old certificate.now) (S.faults store.old) (S.faults store.new) result }
+    ensures answered { RestIs certificate_kind (ReplaySays (of_program program.now)) (S.holding store.old certificate.now) (S.faults store.old) (S.faults store.new) result }
     ensures counted { S.faults store.old ≤ S.faults store.new }
     ensures kept { (name : List ℕ) → S.holding store.new name ≡ S.holding store.old name }
 {
@@ -59,7 +60,7 @@ fn ruled(
     certificate: &Certificate,
 ) -> Result<Answer, NoMemory>
     requires { g.now ≡ graph program.now }
-    ensures { IfOk result (λ a. ReplayAnswers program.now certificate.now a.status a.text) }
+    ensures { IfOk result (λ a. ReplaySays (of_program program.now) certificate.now a.status a.text) }
 {
     let ruling = accept(g, certificate);
     answer_of_ruling(alloc, certificate, &program.names, ruling)

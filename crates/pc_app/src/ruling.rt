@@ -3,7 +3,7 @@
 ghost use Rattle.std.specs.Prelude.{◌≡◌, ◌++◌, length, OnOk, IfOk};
 ghost use Rattle.std.specs.List.{AllByRecursion};
 ghost use Rattle.pc_certificate.specs.Certificate.{condition_of, SaysOf};
-ghost use Rattle.pc_app.specs.Rulings.{numbered, at_edge, at_row, refusal_text, ruling_status, ruling_text};
+ghost use Rattle.pc_app.specs.Replay.{numbered, at_edge, at_row, refusal_text, ruling_status, ruling_text};
 
 use crate::answer::Answer;
 use crate::status::{DONE, FAILED};

@@ -1,9 +1,9 @@
 //! What the words `run` are answered: verdicts on runs.
 
 ghost use Rattle.std.specs.Prelude.{◌≡◌, ◌≤◌, ℕ, List};
-ghost use Rattle.pc_app.specs.Answers.{OnRun};
-ghost use Rattle.pc_app.specs.Reading.{OrderIs, WithFile};
-ghost use Rattle.pc_words.specs.Words.{Run};
+ghost use Rattle.pc_app.specs.Kinds.{script_kind};
+ghost use Rattle.pc_app.specs.Run.{RunSays, run};
+ghost use Rattle.pc_app.specs.Reading.{TaskIs, RestIs};
 
 use crate::answer::{Answer, Stop};
 use crate::files::{script_in, source_in};
@@ -20,7 +20,7 @@ pub(crate) fn answer_to_run<S: Store>(
     script: &str,
     store: &mut S,
 ) -> Result<Answer, Stop>
-    ensures answered { OrderIs (S.holding store.old) (S.faults store.old) (S.faults store.new) (Run source.now script.now) result }
+    ensures answered { TaskIs (S.holding store.old) (S.faults store.old) (S.faults store.new) (run source.now script.now) result }
     ensures kept { (name : List ℕ) → S.holding store.new name ≡ S.holding store.old name }
 {
     let program = source_in(alloc, source, store)?;
@@ -34,7 +34,7 @@ fn run_program<S: Store>(
     script: &str,
     store: &mut S,
 ) -> Result<Answer, Stop>
-    ensures answered { WithFile (OnRun (S.holding store.old script.now) program.now) (S.holding store.old script.now) (S.faults store.old) (S.faults store.new) result }
+    ensures answered { RestIs (script_kind program.now.names.params) (RunSays program.now) (S.holding store.old script.now) (S.faults store.old) (S.faults store.new) result }
     ensures counted { S.faults store.old ≤ S.faults store.new }
     ensures kept { (name : List ℕ) → S.holding store.new name ≡ S.holding store.old name }
 {

@@ -2,14 +2,21 @@
 
 ghost use Rattle.std.specs.Prelude.{◌≡◌, ◌↔◌, ◌⊎◌, ℕ, List, map, string_bytes};
 ghost use Rattle.pc_ports.specs.Outside.{Rose};
-ghost use Rattle.pc_words.specs.Words.{Order, files_of};
+ghost use Rattle.pc_words.specs.Words.{Order};
 ghost use Rattle.pc_words.specs.Taken.{AreCommand, Orders, IsInfer, IsCertify, IsReplay, IsRun, IsFacts, IsQuick, IsShow, IsTrial};
 ghost use Rattle.pc_words.specs.declared.domains.FactsDomain.{FactsDomain};
 ghost use Rattle.pc_words.specs.declared.domains.QuickDomain.{QuickDomain};
-ghost use Rattle.pc_app.specs.Silences.{LacksFile};
-ghost use Rattle.pc_app.specs.Causes.{IsRuling, IsVerdict, OrderIsTooLong, OrderIsRefused, OrderIsMalformed, OrderIsMeant, IsOutcome};
-ghost use Rattle.pc_app.specs.Outcomes.{OrderHasFailed, OrderIsPast};
-ghost use Rattle.pc_app.specs.Promises.{OfBytes, PrintedSuffices, PrintedIsExact, PrintedCovers, PrintedCertificate, PrintedRuling, PrintedAccepted, PrintedVerdict, PrintedProgram, PrintedFacts, PrintedEnough, PrintedTrial, AreTold, AreThere, IsOnlyStatus, IsWritten, IsAnswered, HasAnswered, IsCutOff, Ends};
+ghost use Rattle.pc_app.specs.Tasks.{Keeps};
+ghost use Rattle.pc_app.specs.Infer.{infer, certify};
+ghost use Rattle.pc_app.specs.Replay.{IsRuling, replay};
+ghost use Rattle.pc_app.specs.Run.{IsVerdict, run};
+ghost use Rattle.pc_app.specs.Facts.{facts};
+ghost use Rattle.pc_app.specs.Quick.{quick};
+ghost use Rattle.pc_app.specs.Show.{show};
+ghost use Rattle.pc_app.specs.Trial.{trial};
+ghost use Rattle.pc_app.specs.Table.{files_of};
+ghost use Rattle.pc_app.specs.Answers.{LacksFile};
+ghost use Rattle.pc_app.specs.Promises.{OrderIsTooLong, OrderIsFaulty, OrderIsMeant, OrderHasFailed, OrderIsPast, IsOutcome, AreTold, AreThere, IsOnlyStatus, IsWritten, IsAnswered, HasAnswered, IsCutOff, Ends};
 
 use crate::answer::{Answer, Stop, answer_to_words};
 use crate::status::{
@@ -44,64 +51,48 @@ use std::alloc::Global;
 pub fn serve<S: Store, K: Sink>(alloc: Global, words: &[String], store: &mut S, out: &mut K) -> u8
     // In all clauses words order something in its plain form, or, where they are in none, as `clap` takes them.
     //
-    // Words `infer F`, done: the bytes of F spell a program, a condition on its entry states was
-    // printed, and every entry state that meets it is safe.
-    ensures sound { (name : List ℕ) → IsInfer (map string_bytes words.now) name → result ≡ DONE →
-        OfBytes (λ bytes. PrintedSuffices bytes (K.written out.old) (K.written out.new)) (S.holding store.old name) }
+    // Words `infer F`, done: the bytes of F spell a program, and the condition of a certificate was printed that is
+    // inferred for it: it suffices (`sound`), on tame and straight programs no other entry state is safe (`exact`), and
+    // it loses no promised guess (`covering`).
+    ensures infer { (source : List ℕ) → IsInfer (map string_bytes words.now) source → result ≡ DONE →
+        Keeps (infer source) (S.holding store.old) result (K.written out.old) (K.written out.new) }
 
-    // On tame programs without loops, assumptions and tests but `*` exactly the safe entry states meet it:
-    // from each other some list of choices violates an assertion.
-    ensures exact { (name : List ℕ) → IsInfer (map string_bytes words.now) name → result ≡ DONE →
-        OfBytes (λ bytes. PrintedIsExact bytes (K.written out.old) (K.written out.new)) (S.holding store.old name) }
+    // Words `infer F --certificate`, done: the text of such a certificate was printed, which is short enough to be read.
+    ensures certify { (source : List ℕ) → IsCertify (map string_bytes words.now) source → result ≡ DONE →
+        Keeps (certify source) (S.holding store.old) result (K.written out.old) (K.written out.new) }
 
-    // Of each of the five guesses at the rows of loops whose numbers are tame, and whose proofs at the heads of loops
-    // are there and are modest: every state that meets its rows at the entry meets the condition.
-    ensures covering { (name : List ℕ) → IsInfer (map string_bytes words.now) name → result ≡ DONE →
-        OfBytes (λ bytes. PrintedCovers bytes (K.written out.old) (K.written out.new)) (S.holding store.old name) }
-
-    // Words `infer F --certificate`, done: a certificate was printed that is right for the program, and
-    // every entry state that meets its condition is safe; on tame and straight programs no other is. It covers
-    // the guesses as a condition does.
-    ensures certified { (name : List ℕ) → IsCertify (map string_bytes words.now) name → result ≡ DONE →
-        OfBytes (λ bytes. PrintedCertificate bytes (K.written out.old) (K.written out.new)) (S.holding store.old name) }
-
-    // Words `replay F C`, done: the certificate of C, whoever made it, is right for the program of F, and
-    // every entry state that meets the condition that was printed is safe.
-    ensures accepted { (source certificate : List ℕ) → IsReplay (map string_bytes words.now) source certificate → result ≡ DONE →
-        OfBytes (λ of_source. OfBytes (λ of_certificate. PrintedAccepted of_source of_certificate (K.written out.old) (K.written out.new))
-        (S.holding store.old certificate)) (S.holding store.old source) }
-
-    // Done or failed: the ruling was printed, which is the first refusal in the order of the rule.
-    ensures ruled { (source certificate : List ℕ) → IsReplay (map string_bytes words.now) source certificate → IsRuling result →
-        OfBytes (λ of_source. OfBytes (λ of_certificate. PrintedRuling of_source of_certificate result (K.written out.old) (K.written out.new))
-        (S.holding store.old certificate)) (S.holding store.old source) }
+    // Words `replay F C`, done or failed: the ruling was printed on the certificate of C, whoever made it, which is the
+    // first refusal in the order of the rule. Done: it is right for the program of F, and every entry state that meets
+    // the condition that was printed is safe.
+    ensures replay { (source certificate : List ℕ) → IsReplay (map string_bytes words.now) source certificate → IsRuling result →
+        Keeps (replay source certificate) (S.holding store.old) result (K.written out.old) (K.written out.new) }
 
     // Words `run F S`: the verdict on the machine's run of the program of F over the choices of S.
-    ensures verdict { (source script : List ℕ) → IsRun (map string_bytes words.now) source script → IsVerdict result →
-        OfBytes (λ of_source. OfBytes (λ of_script. PrintedVerdict of_source of_script result (K.written out.old) (K.written out.new))
-        (S.holding store.old script)) (S.holding store.old source) }
-
-    // Words `show F`, done: the canonical text of the program.
-    ensures shown { (name : List ℕ) → IsShow (map string_bytes words.now) name → result ≡ DONE →
-        OfBytes (λ bytes. PrintedProgram bytes (K.written out.old) (K.written out.new)) (S.holding store.old name) }
+    ensures run { (source script : List ℕ) → IsRun (map string_bytes words.now) source script → IsVerdict result →
+        Keeps (run source script) (S.holding store.old) result (K.written out.old) (K.written out.new) }
 
     // Words `facts F --domain=..`, done: a line for each point of the program's graph, with rows that each state meets
     // which some walk from an entry state brings there. With boxes, where the program has no loops, they are exactly
-    // the rows of the box at the point.
-    ensures known { (domain : FactsDomain) (name : List ℕ) → IsFacts (map string_bytes words.now) domain name → result ≡ DONE →
-        OfBytes (λ bytes. PrintedFacts domain bytes (K.written out.old) (K.written out.new)) (S.holding store.old name) }
+    // the rows of the box at the point; with polyhedra, on few assertions and assumptions alone, an entry state meets
+    // the rows that were printed exactly where it comes to the point.
+    ensures facts { (domain : FactsDomain) (source : List ℕ) → IsFacts (map string_bytes words.now) domain source → result ≡ DONE →
+        Keeps (facts domain source) (S.holding store.old) result (K.written out.old) (K.written out.new) }
 
     // Words `quick F --domain=..`, done: a condition of at most one line was printed, and every entry state that meets
     // it is safe. With rows, on a tame program without loops, every state that meets what is needed at the entry meets
     // it; with boxes, on a tame and straight program without two variables in a right side or in a row of an assertion,
     // exactly the safe entry states do.
-    ensures enough { (domain : QuickDomain) (name : List ℕ) → IsQuick (map string_bytes words.now) domain name → result ≡ DONE →
-        OfBytes (λ bytes. PrintedEnough domain bytes (K.written out.old) (K.written out.new)) (S.holding store.old name) }
+    ensures quick { (domain : QuickDomain) (source : List ℕ) → IsQuick (map string_bytes words.now) domain source → result ≡ DONE →
+        Keeps (quick domain source) (S.holding store.old) result (K.written out.old) (K.written out.new) }
+
+    // Words `show F`, done: the canonical text of the program.
+    ensures show { (source : List ℕ) → IsShow (map string_bytes words.now) source → result ≡ DONE →
+        Keeps (show source) (S.holding store.old) result (K.written out.old) (K.written out.new) }
 
     // Words `trial N`, done: the made source spells a program; how large both are and how many alternatives the
     // condition has was printed, and then the condition, of which holds what holds of `infer`.
     ensures trial { (loops : ℕ) → IsTrial (map string_bytes words.now) loops → result ≡ DONE →
-        PrintedTrial loops (K.written out.old) (K.written out.new) }
+        Keeps (trial loops) (S.holding store.old) result (K.written out.old) (K.written out.new) }
 
     // Each answer is written whole.
     ensures answered { IsAnswered result →
@@ -118,13 +109,12 @@ pub fn serve<S: Store, K: Sink>(alloc: Global, words: &[String], store: &mut S, 
     ensures too_long { (order : Order) → Orders (map string_bytes words.now) order → AreTold (S.holding store.old) (files_of order) →
         IsAnswered result → (result ≡ TOO_LONG) ↔ OrderIsTooLong (S.holding store.old) order }
 
-    // Refused exactly where the bytes of the source spell no program.
+    // Refused and malformed exactly where the bytes of a file have a fault, with the status of its kind: those of the
+    // source, which spell no program, and behind a source that is read those of the certificate or the script.
     ensures refused { (order : Order) → Orders (map string_bytes words.now) order → AreTold (S.holding store.old) (files_of order) →
-        IsAnswered result → (result ≡ REFUSED) ↔ OrderIsRefused (S.holding store.old) order }
-
-    // Malformed exactly where a source is read, and the certificate or the script behind it is none.
+        IsAnswered result → (result ≡ REFUSED) ↔ OrderIsFaulty REFUSED (S.holding store.old) order }
     ensures malformed { (order : Order) → Orders (map string_bytes words.now) order → AreTold (S.holding store.old) (files_of order) →
-        IsAnswered result → (result ≡ MALFORMED) ↔ OrderIsMalformed (S.holding store.old) order }
+        IsAnswered result → (result ≡ MALFORMED) ↔ OrderIsFaulty MALFORMED (S.holding store.old) order }
 
     // Failed exactly where a source is read, and the certificate behind it is not right for the program's graph, or
     // the run over the script behind it violates an assertion.

@@ -1,28 +1,21 @@
 //! What the words `show` are answered: canonical texts.
 
-ghost use Rattle.std.specs.Prelude.{◌≡◌, ℕ, List};
-ghost use Rattle.pc_app.specs.Reading.{OrderIs};
-ghost use Rattle.pc_words.specs.Words.{Show};
+ghost use Rattle.pc_app.specs.Show.{ShowPrints};
 
-use crate::answer::{Answer, Stop};
-use crate::files::source_in;
-use crate::status::DONE;
-use pc_ports::Store;
+use crate::printing::Prints;
+use pc_program::Program;
 use pc_syntax::show;
+use pc_text::{NoMemory, Text};
 use std::alloc::Global;
 
-/// The answer to `show`.
-pub(crate) fn answer_to_show<S: Store>(
-    alloc: Global,
-    source: &str,
-    store: &mut S,
-) -> Result<Answer, Stop>
-    ensures answered { OrderIs (S.holding store.old) (S.faults store.old) (S.faults store.new) (Show source.now) result }
-    ensures kept { (name : List ℕ) → S.holding store.new name ≡ S.holding store.old name }
-{
-    let program = source_in(alloc, source, store)?;
-    Ok(Answer {
-        status: DONE,
-        text: show(alloc, &program)?,
-    })
+/// `show F`.
+#[derive(Drop)]
+pub(crate) struct Canonical;
+
+impl Prints for Canonical {
+    ghost prints = { λ _. ShowPrints };
+
+    fn text(&self, alloc: Global, program: &Program) -> Result<Text, NoMemory> {
+        show(alloc, program)
+    }
 }

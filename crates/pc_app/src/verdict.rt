@@ -2,7 +2,7 @@
 
 ghost use Rattle.std.specs.Prelude.{◌≡◌, ◌++◌, ◌<◌, OnOk, IfOk, codes, pos};
 ghost use Rattle.pc_text.specs.Numerals.{numeral};
-ghost use Rattle.pc_app.specs.Verdicts.{step_text, step_at, values_text, told, verdict_status, verdict_text};
+ghost use Rattle.pc_app.specs.Run.{step_text, step_at, values_text, told, verdict_status, verdict_text};
 
 use crate::answer::Answer;
 use crate::refusal::push_place;

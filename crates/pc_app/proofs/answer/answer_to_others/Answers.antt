@@ -1,4 +1,4 @@
-use Rattle.pc_app.proofs.OrderLemmas.{taken_go_on}
+use Rattle.pc_app.proofs.ReadingLemmas.{taken_go_on}
 use Rattle.pc_app.proofs.answer.answer_to_others.Goals as goal
 
 pub returns-in-Some-clause-answered : goal.returns-in-Some-clause-answered

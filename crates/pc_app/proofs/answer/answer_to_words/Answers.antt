@@ -1,5 +1,5 @@
 use Rattle.std.proofs.Common.{inl}
-use Rattle.pc_app.proofs.OrderLemmas.{words_go_on}
+use Rattle.pc_app.proofs.ReadingLemmas.{words_go_on}
 use Rattle.pc_app.proofs.answer.answer_to_words.Goals as goal
 
 pub returns-in-Some-clause-answered : goal.returns-in-Some-clause-answered

@@ -1,8 +1,8 @@
 use Rattle.std.proofs.Common.{rules, refl, inr}
 use Rattle.std.proofs.lemmas.Result.{err_from_is_err_and}
 use Rattle.pc_app.specs.Kinds.{certificate_kind}
-use Rattle.pc_app.specs.Silences.{IsLost}
-use Rattle.pc_app.proofs.OrderLemmas.{bytes_stop}
+use Rattle.pc_app.specs.Causes.{IsLost}
+use Rattle.pc_app.proofs.ReadingLemmas.{bytes_stop}
 use Rattle.pc_app.proofs.ScriptLemmas.{no_certificate}
 use Rattle.pc_app.proofs.files.certificate_in.Goals as goal
 

@@ -1,4 +1,4 @@
-use Rattle.pc_app.proofs.EnoughLemmas.{enough_by_rows, enough_by_boxes}
+use Rattle.pc_app.proofs.QuickLemmas.{enough_by_rows, enough_by_boxes}
 use Rattle.pc_app.proofs.quick.condition_of.Goals as goal
 
 pub returns-in-Rows : goal.returns-in-Rows

@@ -1,5 +1,5 @@
 use Rattle.std.proofs.Common.{codes}
-use Rattle.pc_app.specs.Rulings.{numbered}
+use Rattle.pc_app.specs.Replay.{numbered}
 use Rattle.pc_app.proofs.TextLemmas.{piece_and_two}
 use Rattle.pc_app.proofs.ruling.push_at_edge.Goals as goal
 

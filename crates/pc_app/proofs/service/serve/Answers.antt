@@ -1,14 +1,34 @@
+use Rattle.pc_words.specs.Words.{Infer, Certify, Replay, Run, Facts, Quick, Show, Trial}
 use Rattle.pc_app.proofs.EndLemmas as ends
 use Rattle.pc_app.proofs.service.serve.Goals as goal
 
-pub returns-clause-exact : goal.returns-clause-exact
-returns-clause-exact g c = ends.exact _ _ _ _ _ _ _ _ _ c.respond.ensures.ends
+-- ---- what each command promises
 
-pub returns-clause-covering : goal.returns-clause-covering
-returns-clause-covering g c = ends.covering _ _ _ _ _ _ _ _ _ c.respond.ensures.ends
+pub returns-clause-infer : goal.returns-clause-infer
+returns-clause-infer g c source is ended = ends.keeps _ _ _ _ _ _ _ _ _ c.respond.ensures.ends (Infer source) is ended
 
-pub returns-clause-sound : goal.returns-clause-sound
-returns-clause-sound g c = ends.sound _ _ _ _ _ _ _ _ _ c.respond.ensures.ends
+pub returns-clause-certify : goal.returns-clause-certify
+returns-clause-certify g c source is ended = ends.keeps _ _ _ _ _ _ _ _ _ c.respond.ensures.ends (Certify source) is ended
+
+pub returns-clause-replay : goal.returns-clause-replay
+returns-clause-replay g c source certificate is ended = ends.keeps _ _ _ _ _ _ _ _ _ c.respond.ensures.ends (Replay source certificate) is ended
+
+pub returns-clause-run : goal.returns-clause-run
+returns-clause-run g c source script is ended = ends.keeps _ _ _ _ _ _ _ _ _ c.respond.ensures.ends (Run source script) is ended
+
+pub returns-clause-facts : goal.returns-clause-facts
+returns-clause-facts g c domain source is ended = ends.keeps _ _ _ _ _ _ _ _ _ c.respond.ensures.ends (Facts domain source) is ended
+
+pub returns-clause-quick : goal.returns-clause-quick
+returns-clause-quick g c domain source is ended = ends.keeps _ _ _ _ _ _ _ _ _ c.respond.ensures.ends (Quick domain source) is ended
+
+pub returns-clause-show : goal.returns-clause-show
+returns-clause-show g c source is ended = ends.keeps _ _ _ _ _ _ _ _ _ c.respond.ensures.ends (Show source) is ended
+
+pub returns-clause-trial : goal.returns-clause-trial
+returns-clause-trial g c loops is ended = ends.keeps _ _ _ _ _ _ _ _ _ c.respond.ensures.ends (Trial loops) is ended
+
+-- ---- what holds of all forms
 
 pub returns-clause-answered : goal.returns-clause-answered
 returns-clause-answered g c = ends.answered _ _ _ _ _ _ _ _ _ c.respond.ensures.ends
@@ -43,32 +63,8 @@ returns-clause-unwritten g c = ends.unwritten _ _ _ _ _ _ _ _ _ c.respond.ensure
 pub returns-clause-complete : goal.returns-clause-complete
 returns-clause-complete g c = ends.complete _ _ _ _ _ _ _ _ _ c.respond.ensures.ends
 
-pub returns-clause-verdict : goal.returns-clause-verdict
-returns-clause-verdict g c = ends.verdict _ _ _ _ _ _ _ _ _ c.respond.ensures.ends
-
 pub returns-clause-only : goal.returns-clause-only
 returns-clause-only g c = ends.only _ _ _ _ _ _ _ _ _ c.respond.ensures.ends
-
-pub returns-clause-certified : goal.returns-clause-certified
-returns-clause-certified g c = ends.certified _ _ _ _ _ _ _ _ _ c.respond.ensures.ends
-
-pub returns-clause-accepted : goal.returns-clause-accepted
-returns-clause-accepted g c = ends.accepted _ _ _ _ _ _ _ _ _ c.respond.ensures.ends
-
-pub returns-clause-ruled : goal.returns-clause-ruled
-returns-clause-ruled g c = ends.ruled _ _ _ _ _ _ _ _ _ c.respond.ensures.ends
-
-pub returns-clause-shown : goal.returns-clause-shown
-returns-clause-shown g c = ends.shown _ _ _ _ _ _ _ _ _ c.respond.ensures.ends
-
-pub returns-clause-known : goal.returns-clause-known
-returns-clause-known g c = ends.known _ _ _ _ _ _ _ _ _ c.respond.ensures.ends
-
-pub returns-clause-enough : goal.returns-clause-enough
-returns-clause-enough g c = ends.enough _ _ _ _ _ _ _ _ _ c.respond.ensures.ends
-
-pub returns-clause-trial : goal.returns-clause-trial
-returns-clause-trial g c = ends.trial _ _ _ _ _ _ _ _ _ c.respond.ensures.ends
 
 pub returns-clause-answers : goal.returns-clause-answers
 returns-clause-answers g c = ends.answers _ _ _ _ _ _ _ _ _ c.respond.ensures.ends
