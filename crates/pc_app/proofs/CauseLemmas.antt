@@ -103,8 +103,11 @@ module _ (kind : Kind) (A : kind.Meaning → ℕ → Bytes → Type 0) (held : H
       HasFault status kind held ⊎ ((m : kind.Meaning) × MayMean kind held m × A m status text)
   faulty_cause decided status text told not_long (IsRefused (inl long)) = absurd (not_long long.status_is)
   faulty_cause decided status text told not_long (IsRefused (inr faulty)) =
-      inl (sym faulty.status_is, is_held (λ bytes. (length bytes ≤ kind.limit bytes) × ((m : kind.Meaning) → kind.Means bytes m → ⊥)) held told faulty.bytes faulty.has.holds
-      (faulty.has.short, λ m means. decided.apart faulty.bytes m faulty.fault means faulty.faulty))
+      inl (
+        sym faulty.status_is,
+        is_held (λ bytes. (length bytes ≤ kind.limit bytes) × ((m : kind.Meaning) → kind.Means bytes m → ⊥)) held told faulty.bytes faulty.has.holds
+            (faulty.has.short, λ m means. decided.apart faulty.bytes m faulty.fault means faulty.faulty),
+      )
   faulty_cause decided status text told not_long (IsRead m is a) = inr (m, is, a)
 
   -- a file that means something is read so

@@ -23,7 +23,11 @@ use pc_text::{NoMemory, Text};
 use std::alloc::Global;
 
 /// The answer to `trial`.
-pub(crate) fn answer_to_trial<S: Store>(alloc: Global, loops: u32, store: &mut S) -> Result<Answer, Stop>
+pub(crate) fn answer_to_trial<S: Store>(
+    alloc: Global,
+    loops: u32,
+    store: &mut S,
+) -> Result<Answer, Stop>
     requires { IsLoops loops }
     ensures answered { TaskIs (S.holding store.old) (S.faults store.old) (S.faults store.new) (trial loops) result }
     ensures kept { (name : List ℕ) → S.holding store.new name ≡ S.holding store.old name }
@@ -74,7 +78,11 @@ fn told(alloc: Global, loops: u32, source: &[u8], program: &Program) -> Result<T
     let graph = lower(alloc, program)?;
     let certificate = certificate_of(alloc, &graph)?;
     let mut text = Text::new(alloc);
-    push_summary(alloc, &mut text, summary_of(loops, source, &graph, &certificate))?;
+    push_summary(
+        alloc,
+        &mut text,
+        summary_of(loops, source, &graph, &certificate),
+    )?;
     text.push_all(show_condition(alloc, &certificate, &program.names)?.bytes())?;
     Ok(text)
 }
