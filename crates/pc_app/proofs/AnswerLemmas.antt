@@ -1,5 +1,5 @@
 -- What follows from how words are answered.
-use Rattle.std.proofs.Common.{◌≡◌, ◌∙◌, sym, ◌↔◌, subst, ℕ, List, arith, ◌⊎◌, inl, inr}
+use Rattle.std.proofs.Common.{◌≡◌, ◌∙◌, sym, ◌↔◌, subst, ℕ, List, arith, ◌⊎◌}
 use Rattle.pc_ports.specs.Outside.{Holding}
 use Rattle.pc_text.specs.Bytes.{Bytes}
 use Rattle.pc_words.specs.Words.{Order}

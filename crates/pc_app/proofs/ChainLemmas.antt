@@ -1,6 +1,5 @@
 -- The graph of a program of assertions and assumptions alone is a chain.
-use Rattle.std.proofs.Common.{◌≡◌, ◌∙◌, ℕ, ◌+◌, ◌≤◌, List, [], ◌∷◌, ◌++◌, length, map, Bool, true, false, refl, sym, ap, subst, arith}
-use Rattle.std.specs.Prelude.{◌&&◌}
+use Rattle.std.proofs.Common.{◌≡◌, ◌∙◌, ℕ, ◌+◌, ◌≤◌, List, [], ◌∷◌, length, Bool, true, refl, sym, ap, subst}
 use Rattle.std.proofs.lemmas.Bool.{and_parts}
 use Rattle.pc_text.specs.declared.place.Place.{Place}
 use Rattle.pc_rows.specs.declared.rows.TheConstants.{ROWS}
@@ -12,9 +11,8 @@ use Rattle.pc_program.specs.Loops.{whiles, whiles_step, whiles_of}
 use Rattle.pc_program.proofs.Stmts.{by_stmt}
 use Rattle.pc_flow.specs.declared.what.What.{What}
 use Rattle.pc_flow.specs.declared.what.What.TheVariants.{Test, Check}
-use Rattle.pc_flow.specs.Arc.{Arc}
 use Rattle.pc_flow.proofs.Lists.{none_joined}
-use Rattle.pc_graph.specs.Lowering.{Piece, Rule, after, one, rule, rule_step, rules, made, graph}
+use Rattle.pc_graph.specs.Lowering.{Piece, Rule, after, one, rule, rule_step, rules, graph}
 use Rattle.pc_poly.specs.Chains.{IsTest, tests_of, Follows, tests_count, IsChain}
 use Rattle.pc_app.specs.Checks.{check_step, is_check, are_checks, rows_step, rows_of, rows_count, AreChecks}
 

@@ -1,12 +1,12 @@
 -- Files of each shape: the answer to them tells why it came, and what is held gives the answer.
 use Rattle.std.proofs.Common.{◌≡◌, ◌≢◌, ◌⊎◌, inl, inr, ℕ, Option, arith}
-use Rattle.pc_ports.specs.Outside.{Holding, Nothing, Rose, Held, Appended}
+use Rattle.pc_ports.specs.Outside.{Holding, Nothing, Rose, Appended}
 use Rattle.pc_text.specs.Bytes.{Bytes}
-use Rattle.pc_app.specs.declared.status.TheConstants.{DONE, FAILED, REFUSED, MALFORMED, TOO_LONG, PAST, USAGE}
-use Rattle.pc_app.specs.Files.{Kind, MayMean, OnFile}
+use Rattle.pc_app.specs.declared.status.TheConstants.{DONE, FAILED, REFUSED, MALFORMED, TOO_LONG, PAST}
+use Rattle.pc_app.specs.Files.{Kind, OnFile}
 use Rattle.pc_app.specs.Files.OnFile.{IsRead, IsRefused}
 use Rattle.pc_app.specs.Inputs.{Inputs, NoFile, OneFile, TwoFiles, names_of, Given, OnInputs}
-use Rattle.pc_app.specs.Causes.{IsMeant, Behind, AreTooLong, HasFault, AreFaulty, AreMeant, IsLost, AreLost}
+use Rattle.pc_app.specs.Causes.{AreTooLong, AreFaulty, AreMeant, IsLost, AreLost}
 use Rattle.pc_app.specs.Tasks.{Printed, IsPrinted, OfBytes}
 use Rattle.pc_app.specs.Promises.{AreTold, AreThere}
 use Rattle.pc_app.proofs.KindLemmas.{IsDecided, AreAlike, alike_self}

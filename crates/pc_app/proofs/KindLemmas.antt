@@ -1,5 +1,5 @@
 -- The bytes of a file of each kind have a meaning or a fault.
-use Rattle.std.proofs.Common.{◌≡◌, Ok, Err, Some, None, Result, ◌⊎◌, inl, inr, refl, subst, ℕ}
+use Rattle.std.proofs.Common.{◌≡◌, Ok, Err, Some, None, Option, Result, ◌⊎◌, inl, inr, refl, subst, ℕ}
 use Rattle.pc_text.specs.Bytes.{Bytes}
 use Rattle.pc_program.specs.declared.program.Program.{Program}
 use Rattle.pc_syntax.specs.Context.{content_of}
@@ -14,7 +14,7 @@ use Rattle.pc_cert.proofs.Meaning.{each_text_has_one_answer}
 use Rattle.pc_runner.specs.Scripts.{Choosing, script_of}
 use Rattle.pc_runner.specs.declared.fault.ScriptFault.{ScriptFault}
 use Rattle.pc_app.specs.declared.status.TheConstants.{REFUSED, MALFORMED}
-use Rattle.pc_app.specs.Files.{Kind}
+use Rattle.pc_app.specs.Files.{Kind, FaultyOr, with_fault}
 use Rattle.pc_app.specs.Kinds.{source_kind, script_kind, certificate_kind}
 
 -- bytes have a meaning or a fault, and not both; a file with a fault is refused, or malformed
@@ -94,3 +94,28 @@ certificate_decided =
       apart = text_has_no_fault;
       status = inr refl;
     }
+
+-- ---- kinds with a further fault
+
+module _ (kind : Kind) (F : Type 0) (fault : kind.Meaning → Option F) (more : F → Bytes) (decided : IsDecided kind)
+    (same : (bytes : Bytes) (m n : kind.Meaning) → kind.Means bytes m → kind.Means bytes n → fault m ≡ fault n) where
+  more_total : (bytes : Bytes) (m : kind.Meaning) → kind.Means bytes m → (o : Option F) → fault m ≡ o →
+      ((m : kind.Meaning) × (kind.Means bytes m × (fault m ≡ None))) ⊎ ((f : kind.Fault ⊎ F) × FaultyOr kind F fault bytes f)
+  more_total bytes m means None e = inl (m, (means, e))
+  more_total bytes m means (Some f) e = inr (inr f, (m, means, e))
+
+  by_total : (bytes : Bytes) → ((m : kind.Meaning) × kind.Means bytes m) ⊎ ((f : kind.Fault) × kind.Faulty bytes f) →
+      ((m : kind.Meaning) × (kind.Means bytes m × (fault m ≡ None))) ⊎ ((f : kind.Fault ⊎ F) × FaultyOr kind F fault bytes f)
+  by_total bytes (inl x) = more_total bytes x.0 x.1 (fault x.0) refl
+  by_total bytes (inr x) = inr (inl x.0, x.1)
+
+  more_apart : (bytes : Bytes) (m : kind.Meaning) (f : kind.Fault ⊎ F) → kind.Means bytes m × (fault m ≡ None) → FaultyOr kind F fault bytes f → ⊥
+  more_apart bytes m (inl f) means faulty = decided.apart bytes m f means.0 faulty
+  more_apart bytes m (inr f) means faulty =
+      let one = same bytes m faulty.0 means.0 faulty.1 in
+      let none = means.1 in
+      let some = faulty.2 in
+      absurd (cc)
+
+  pub with_fault_decided : IsDecided (with_fault kind F fault more)
+  with_fault_decided = record { total = λ bytes. by_total bytes (decided.total bytes); apart = more_apart; status = decided.status }

@@ -1,5 +1,5 @@
 -- What a domain finds to be enough for a graph is enough for the program.
-use Rattle.std.proofs.Common.{◌≡◌, ℕ, List, [], ◌∷◌, length, slice_get, arith, subst, Result, Ok, Err, IfOk}
+use Rattle.std.proofs.Common.{◌≡◌, List, [], ◌∷◌, length, slice_get, arith, subst, Result, Ok, Err, IfOk}
 use Rattle.std.specs.List.{AllByRecursion as Each}
 use Rattle.pc_text.specs.Bytes.{Bytes}
 use Rattle.pc_rows.proofs.First.{zero_from_all}

@@ -1,5 +1,5 @@
 -- A command is answered as the files are that it reads.
-use Rattle.std.proofs.Common.{ℕ, ◌≤◌, inl, inr, subst, List, Result, Ok, Err, ◌⊎◌}
+use Rattle.std.proofs.Common.{ℕ, ◌≤◌, inl, inr, subst, List, Result, Ok, Err}
 use Rattle.pc_ports.specs.Outside.{Holding}
 use Rattle.pc_ports.proofs.Appending.{rose_from}
 use Rattle.pc_text.specs.Bytes.{Bytes}

@@ -1,5 +1,5 @@
 -- Replaying keeps the laws of commands.
-use Rattle.std.proofs.Common.{◌≡◌, ◌∙◌, ap, sym, subst, ◌⊎◌, inl, inr, refl, ℕ, ◌∷◌, length, codes, arith}
+use Rattle.std.proofs.Common.{◌≡◌, ◌∙◌, ap, sym, ◌⊎◌, inl, inr, refl, ℕ, ◌∷◌, length, arith}
 use Rattle.pc_text.specs.Bytes.{Bytes}
 use Rattle.pc_program.specs.declared.program.Program.{Program}
 use Rattle.pc_syntax.specs.Context.{Content, content_of}
@@ -17,7 +17,7 @@ use Rattle.pc_replay.proofs.Ruled.{rule_is_meant}
 use Rattle.pc_app.specs.declared.status.TheConstants.{DONE, FAILED, PAST}
 use Rattle.pc_app.specs.Subjects.{of_program}
 use Rattle.pc_app.specs.Replay.{ruling_status, ruling_text, IsAccepted, ReplaySays, IsRuling, replay}
-use Rattle.pc_app.proofs.InputLemmas.{AreTwoDecided, IsEnd}
+use Rattle.pc_app.proofs.InputLemmas.{IsEnd}
 use Rattle.pc_app.proofs.KindLemmas.{source_decided, certificate_decided, alike_self, one_content}
 use Rattle.pc_app.specs.Kinds.{certificate_kind}
 use Rattle.pc_app.proofs.Programs.{accepted_programs_are_safe}

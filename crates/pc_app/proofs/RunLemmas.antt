@@ -1,16 +1,15 @@
 -- Running keeps the laws of commands.
-use Rattle.std.proofs.Common.{◌≡◌, ◌∙◌, ap, sym, subst, ◌⊎◌, inl, inr, refl, ℕ, Result, Ok, length, arith}
+use Rattle.std.proofs.Common.{◌≡◌, ◌∙◌, ap, sym, subst, inl, inr, refl, ℕ, Ok, length, arith}
 use Rattle.pc_text.specs.Bytes.{Bytes}
 use Rattle.pc_program.specs.declared.program.Program.{Program}
 use Rattle.pc_program.specs.Machine.{started}
 use Rattle.pc_syntax.specs.Context.{Content, content_of}
 use Rattle.pc_runner.specs.Runs.{SaysOf}
 use Rattle.pc_runner.specs.Scripts.{Choosing, script_of}
-use Rattle.pc_runner.specs.declared.fault.ScriptFault.{ScriptFault}
 use Rattle.pc_runner.specs.declared.verdict.Verdict.{Verdict}
 use Rattle.pc_runner.specs.declared.verdict.Verdict.TheVariants as verdict
 use Rattle.pc_runner.proofs.Sayings.{says_only}
-use Rattle.pc_app.specs.declared.status.TheConstants.{DONE, FAILED, PAST}
+use Rattle.pc_app.specs.declared.status.TheConstants.{FAILED, PAST}
 use Rattle.pc_app.specs.Run.{verdict_status, verdict_text, RunSays, Violates, LeavesRange, IsVerdict, run}
 use Rattle.pc_app.specs.Kinds.{source_kind, script_kind}
 use Rattle.pc_app.proofs.CauseLemmas.{SameFile}

@@ -1,5 +1,5 @@
 -- Exact rows of polyhedra are over the variables, so that all of them are shown.
-use Rattle.std.proofs.Common.{◌≡◌, ◌∙◌, ℕ, zero, suc, ◌+◌, ◌≤◌, ℤ, pos, List, [], ◌∷◌, Bool, true, false, drop, length, Option, Some, None, slice_get, get_or, refl, sym, ap, ap₂, subst, arith}
+use Rattle.std.proofs.Common.{◌≡◌, ◌∙◌, ℕ, zero, suc, ◌+◌, ◌≤◌, ℤ, pos, List, [], ◌∷◌, true, drop, length, Option, Some, None, slice_get, get_or, refl, sym, ap, ap₂, subst, arith}
 use Rattle.std.specs.Prelude.{IsSomeAnd, slice_index_or, replicate, int_le}
 use Rattle.std.specs.List.{AllByRecursion as Each}
 use Rattle.std.specs.Cmp.Lexicographic.{pointwise}

@@ -1,5 +1,4 @@
 -- Each command keeps the laws: one line a command.
-use Rattle.std.proofs.Common.{ℕ}
 use Rattle.pc_words.specs.Words.{Order, Infer, Certify, Replay, Run, Facts, Quick, Show, Trial}
 use Rattle.pc_app.specs.Table.{task_of}
 use Rattle.pc_app.proofs.KindLemmas.{source_decided}

@@ -1,5 +1,5 @@
 -- The laws of commands, and that those which are done whatever their files mean keep them.
-use Rattle.std.proofs.Common.{◌≡◌, ◌∙◌, sym, ◌⊎◌, inl, inr, ℕ, arith}
+use Rattle.std.proofs.Common.{◌≡◌, ◌∙◌, sym, inl, ℕ, arith}
 use Rattle.pc_text.specs.Bytes.{Bytes}
 use Rattle.pc_app.specs.declared.status.TheConstants.{DONE, FAILED, PAST}
 use Rattle.pc_app.specs.Inputs.{Inputs, Given}

@@ -1,5 +1,6 @@
 -- Files by their kinds: what the bytes of a file may mean, and how they are answered where they mean nothing.
-use Rattle.std.specs.Prelude.{◌≡◌, ◌<◌, ◌≤◌, ◌⊎◌, ℕ, length}
+use Rattle.std.specs.Prelude.{◌≡◌, ◌<◌, ◌≤◌, ◌⊎◌, ℕ, Option, Some, None, length}
+use Rattle.std.proofs.Common.{inl, inr}
 use Rattle.pc_ports.specs.Outside.{Holding, Untold, Nothing, Held}
 use Rattle.pc_text.specs.Bytes.{Bytes}
 use Rattle.pc_app.specs.declared.status.TheConstants.{TOO_LONG}
@@ -60,3 +61,27 @@ IsUnread kind held status text = IsTooLong kind.limit kind.long held status text
 pub data OnFile (kind : Kind) (A : kind.Meaning → ℕ → Bytes → Type 0) (held : Holding) (status : ℕ) (text : Bytes) : Type 0 where
   IsRefused : IsUnread kind held status text → OnFile kind A held status text
   IsRead : (m : kind.Meaning) → MayMean kind held m → A m status text → OnFile kind A held status text
+
+-- ---- kinds with a further fault
+
+-- bytes with a fault of the kind, or with a meaning that has a fault
+abbrev pub FaultyOr : (kind : Kind) (F : Type 0) → (kind.Meaning → Option F) → Bytes → kind.Fault ⊎ F → Type 0
+FaultyOr kind F fault bytes (inl f) = kind.Faulty bytes f
+FaultyOr kind F fault bytes (inr f) = (m : kind.Meaning) × kind.Means bytes m × (fault m ≡ Some f)
+
+abbrev pub line_or : {E F : Type 0} → (E → Bytes) → (F → Bytes) → E ⊎ F → Bytes
+line_or line more (inl f) = line f
+line_or line more (inr f) = more f
+
+-- files of a kind, where what they mean may have a fault, with such a line
+abbrev pub with_fault : (kind : Kind) (F : Type 0) → (kind.Meaning → Option F) → (F → Bytes) → Kind
+with_fault kind F fault more = record {
+  limit = kind.limit;
+  long = kind.long;
+  Meaning = kind.Meaning;
+  Means = λ bytes m. kind.Means bytes m × (fault m ≡ None);
+  Fault = kind.Fault ⊎ F;
+  Faulty = FaultyOr kind F fault;
+  status = kind.status;
+  line = line_or kind.line more;
+}

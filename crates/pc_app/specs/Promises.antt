@@ -6,7 +6,6 @@ use Rattle.pc_words.specs.Words.{Order}
 use Rattle.pc_words.specs.Taken.{Orders}
 use Rattle.pc_app.specs.declared.status.TheConstants.{STORE_FAILED, SINK_FAILED, NO_MEMORY}
 use Rattle.pc_app.specs.Causes.{AreTooLong, AreFaulty, AreMeant}
-use Rattle.pc_app.specs.Tasks.{Task}
 use Rattle.pc_app.specs.Table.{task_of, files_of}
 use Rattle.pc_app.specs.Answers.{Answers, LacksFile}
 

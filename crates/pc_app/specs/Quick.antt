@@ -3,7 +3,6 @@ use Rattle.std.specs.Prelude.{◌≡◌, ◌≤◌, List, length, All}
 use Rattle.std.specs.List.{AllByRecursion as Each}
 use Rattle.pc_text.specs.Bytes.{Bytes}
 use Rattle.pc_rows.specs.Linear.{Linear, State, MeetsAll, MeetsSome, IsOver}
-use Rattle.pc_flow.specs.Arc.{Arc}
 use Rattle.pc_lower.specs.Tame.{IsTame}
 use Rattle.pc_box.specs.Exact.{HasOneVariable}
 use Rattle.pc_back.specs.Laws.{needed}

@@ -1,5 +1,5 @@
 -- What each form of words does: the one table of commands.
-use Rattle.std.specs.Prelude.{ℕ, List}
+use Rattle.std.specs.Prelude.{List}
 use Rattle.pc_text.specs.Bytes.{Bytes}
 use Rattle.pc_words.specs.Words.{Order, Infer, Certify, Replay, Run, Facts, Quick, Show, Trial}
 use Rattle.pc_app.specs.Inputs.{names_of}

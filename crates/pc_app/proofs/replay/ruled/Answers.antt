@@ -1,4 +1,3 @@
-use Rattle.std.proofs.Common.{IfOk}
 use Rattle.std.proofs.lemmas.Result.{IfOk-weaker}
 use Rattle.pc_app.proofs.InferLemmas.{says}
 use Rattle.pc_app.proofs.ReplayLemmas.{says_ruling}

@@ -1,4 +1,4 @@
-use Rattle.std.proofs.Common.{◌≡◌, ◌++◌, ◌∙◌, length, ap, sym, rules}
+use Rattle.std.proofs.Common.{◌≡◌, ◌++◌, rules}
 use Rattle.pc_certificate.specs.Certificate.{condition_of}
 use Rattle.pc_condition.specs.Conditions.{condition_text}
 use Rattle.pc_gen.specs.Summary.{summary_text}
