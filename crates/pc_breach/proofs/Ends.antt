@@ -5,7 +5,7 @@ use Rattle.std.proofs.lemmas.Bool.Decides.{nat_tests}
 use Rattle.std.proofs.lemmas.Int.{ints}
 use Rattle.std.proofs.Math.IntN.{zero-*ℤ}
 use Rattle.pc_rows.specs.Linear.{Linear, State, value, Meets, coefficient, is_zero}
-use Rattle.pc_rows.specs.Substitution.{lesser, substituted, carried, needs_open_end, never_row, AreOrdered}
+use Rattle.pc_rows.specs.Substitution.{lesser, substituted, carried, needs_open_end, never_row, AreOrdered, IsNotBelow, IsNotAbove}
 use Rattle.pc_rows.proofs.Carrying.{carried_value, moved_value, has_place}
 use Rattle.pc_rows.proofs.Lists.{zero_is}
 use Rattle.pc_rows.proofs.Ring.{mul_le, mul_neg_left}
@@ -74,3 +74,15 @@ pub end_breaks : (r form : Linear) (x : ℕ) (lo hi : Option ℤ) (s : State) �
 end_breaks r form x None hi s there ordered low high bad = absurd (cc)
 end_breaks r form x (Some lo) None s there ordered low high bad = absurd (cc)
 end_breaks r form x (Some lo) (Some hi) s there ordered low high bad = closed_breaks r form x lo hi s there ordered bad
+
+-- what is chosen lies between the ends
+pub chosen_within : (lo hi : Option ℤ) (c : ℤ) → AreOrdered lo hi → is_none lo ≡ false → is_none hi ≡ false → IsNotBelow lo (clamped lo hi c) × IsNotAbove hi (clamped lo hi c)
+chosen_within None hi c ordered low high = absurd (cc)
+chosen_within (Some lo) None c ordered low high = absurd (cc)
+chosen_within (Some lo) (Some hi) c ordered low high = (not_below lo hi c ordered, not_above lo hi c ordered)
+  where
+    not_below : (lo hi c : ℤ) → lo ≤ℤ hi → lo ≤ℤ clamped (Some lo) (Some hi) c
+    not_below lo hi c le = grind (arith, ints)
+
+    not_above : (lo hi c : ℤ) → lo ≤ℤ hi → clamped (Some lo) (Some hi) c ≤ℤ hi
+    not_above lo hi c le = grind (arith, ints)

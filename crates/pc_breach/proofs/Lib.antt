@@ -3,6 +3,7 @@ pub mod Evaluating
 pub mod Followed
 pub mod Settling
 pub mod Same
+pub mod First
 pub mod Ends
 pub mod Going
 pub mod Meaning

@@ -48,7 +48,7 @@ any_in r (x ∷ rows) h = by (or_cases (is_same x r) (list_any (λ x. is_same x 
     by (inl k) more = inl (sym (same_is x r k))
     by (inr k) more = inr (more k)
 
-in_any : (r : Linear) (rows : List Linear) → In r rows → list_any (λ x. is_same x r) rows ≡ true
+pub in_any : (r : Linear) (rows : List Linear) → In r rows → list_any (λ x. is_same x r) rows ≡ true
 in_any r [] m = absurd m
 in_any r (x ∷ rows) (inl e) = or_left (is_same x r) (list_any (λ x. is_same x r) rows) (subst (λ (z : Linear). is_same z r ≡ true) e (is_itself r))
 in_any r (x ∷ rows) (inr m) = or_right (is_same x r) (list_any (λ x. is_same x r) rows) (in_any r rows m)
@@ -64,13 +64,13 @@ pub record Taken (at : Standing) (e : Arc) (r : Linear) (rows : List Linear) (st
   pub to : step.to ≡ e.to
   pub outcome : Outcome at e r rows step.choice step.row
 
-abbrev onward_step : Standing → Arc → Linear → Step
+abbrev pub onward_step : Standing → Arc → Linear → Step
 onward_step at e z = record { choice = choice at e.what z; to = e.to; row = Some z }
 
-abbrev last_step : Arc → Step
+abbrev pub last_step : Arc → Step
 last_step e = record { choice = Some (pos 0); to = e.to; row = None }
 
-abbrev later_step : Bool → PointRows → Linear → List Arc → Option Step
+abbrev pub later_step : Bool → PointRows → Linear → List Arc → Option Step
 later_step only a r some = step_over_some (record { first = false; only = only }) a r some
 
 taken_more : (at : Standing) (e : Arc) (r x : Linear) (rows : List Linear) (step : Step) → Taken at e r rows step → Taken at e r (x ∷ rows) step
@@ -134,7 +134,7 @@ own_or_carried (Check own) r rows m = by (in_either r own rows m)
     by (inl k) = inl k
     by (inr k) = inr (subst (In r) (sym (kept rows)) k)
 
-over_there : (at : Standing) (e : Arc) (r : Linear) (rows : List Linear) → In r (owes e.what rows) → HasStep (step_over at e r rows)
+pub over_there : (at : Standing) (e : Arc) (r : Linear) (rows : List Linear) → In r (owes e.what rows) → HasStep (step_over at e r rows)
 over_there at e r rows m = by (list_any (λ x. is_same x r) (own_rows e.what)) refl (own_or_carried e.what r rows m)
   where
     by : (t : Bool) → list_any (λ x. is_same x r) (own_rows e.what) ≡ t → In r (own_rows e.what) ⊎ In r (back_all e.what rows) → HasStep (cond t (Some (last_step e)) (carried_step at e r rows))

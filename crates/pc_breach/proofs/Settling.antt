@@ -1,10 +1,10 @@
 -- The answer of an entry state: what is settled, and what is tame.
-use Rattle.std.proofs.Common.{◌≡◌, ◌∙◌, ℕ, ◌+◌, ◌*◌, ◌^◌, ◌<◌, ◌≤◌, ℤ, pos, ◌+ℤ◌, ◌*ℤ◌, List, [], ◌∷◌, length, Bool, true, false, cond, refl, sym, ap, subst, arith, Some, None, Result, Ok, Err}
+use Rattle.std.proofs.Common.{◌≡◌, ◌∙◌, ℕ, ◌+◌, ◌*◌, ◌^◌, ◌<◌, ◌≤◌, ℤ, pos, ◌+ℤ◌, ◌*ℤ◌, List, [], ◌∷◌, length, Bool, true, false, cond, refl, ap, arith, Some, None, Result, Ok, Err}
 use Rattle.std.specs.Prelude.{int_le}
 use Rattle.std.specs.Bool.{MatchBool}
 use Rattle.pc_rows.specs.declared.rows.NoMemory.{NoMemory}
 use Rattle.pc_rows.specs.declared.row.TheConstants.{VARIABLES}
-use Rattle.pc_rows.specs.Linear.{Linear, State, Meets, MeetsAll, value}
+use Rattle.pc_rows.specs.Linear.{Linear, State, MeetsAll, value}
 use Rattle.pc_rows.specs.Points.{SumsFit}
 use Rattle.pc_rows.specs.Bounds.{IsWithin, AreWithin, AllWithin}
 use Rattle.pc_rows.proofs.Bounding.{product_within, sum_within, within_in_range}
@@ -37,18 +37,6 @@ pub some_broken : (s : State) (rows : List Linear) (r : Linear) → Some r ≡ f
 some_broken s [] r h m = cc
 some_broken s (x ∷ rows) r h m =
     some_broken s rows r (h ∙ ap (λ (t : Bool). cond t (first_broken s rows) (Some x)) (is_le (pos 0) (value x s) m.0)) m.1
-
--- and the row itself is not met
-pub first_is_broken : (s : State) (rows : List Linear) (r : Linear) → first_broken s rows ≡ Some r → Meets s r → ⊥
-first_is_broken s [] r h m = cc
-first_is_broken s (x ∷ rows) r h m = by (int_le (pos 0) (value x s)) refl h (λ k. first_is_broken s rows r k m)
-  where
-    by : (t : Bool) → int_le (pos 0) (value x s) ≡ t → cond t (first_broken s rows) (Some x) ≡ Some r → (first_broken s rows ≡ Some r → ⊥) → ⊥
-    by true met h more = more h
-    by false met h more =
-        let same : x ≡ r = cc in
-        let met_too = is_le (pos 0) (value x s) (subst (Meets s) (sym same) m) in
-        cc
 
 -- ---- tame numbers
 

@@ -1,5 +1,5 @@
 -- What the answers promise of walks and of runs.
-use Rattle.std.specs.Prelude.{◌≡◌, ◌≤◌, ℕ, ℤ, pos, List, ◌∷◌, ◌++◌, true, length}
+use Rattle.std.specs.Prelude.{[], ◌≡◌, ◌≤◌, ℕ, ℤ, pos, List, ◌∷◌, ◌++◌, true, length}
 use Rattle.std.specs.List.{AllByRecursion as Each, list_all}
 use Rattle.pc_text.specs.Numerals.{is_in_range}
 use Rattle.pc_text.specs.declared.place.Place.{Place}
@@ -19,11 +19,11 @@ use Rattle.pc_graph.specs.Straight.{are_straight}
 use Rattle.pc_breach.specs.Answers.{entry_rows, choices}
 use Rattle.pc_breach.specs.Graphs.{IsClosed, IsStraight}
 
--- a walk from an entry state takes the choices up to a 0 at an assertion that leaves its last point and that its last state does not meet
+-- a walk from an entry state takes the choices but the last, which is a 0 at an assertion that leaves its last point and that its last state does not meet
 abbrev pub ChoicesBreak : Flow → State → List ℤ → Type 0
 ChoicesBreak g s cs =
-    (es : List Arc) × (q : ℕ) × (t : State) × (before : List ℤ) × (more : List ℤ) ×
-    Chosen g.edges 0 (entered g s) es q t before × (cs ≡ before ++ (pos 0 ∷ more)) ×
+    (es : List Arc) × (q : ℕ) × (t : State) × (before : List ℤ) ×
+    Chosen g.edges 0 (entered g s) es q t before × (cs ≡ before ++ (pos 0 ∷ [])) ×
     ((e : Arc) × In e g.edges × (e.from ≡ q) × (Keeps e.what t → ⊥))
 
 -- an entry state that meets the rows of the entry is safe, and from any other the choices break an assertion
