@@ -9,6 +9,7 @@ pub mod InputLemmas
 pub mod TaskLemmas
 pub mod ReplayLemmas
 pub mod RunLemmas
+pub mod BreachLemmas
 pub mod TableLemmas
 pub mod AnswerLemmas
 pub mod EndLemmas

@@ -24,16 +24,16 @@ of_verdict status (verdict.Ended n) s = inl s
 of_verdict status (verdict.Going state) s = inl s
 of_verdict status (verdict.Past n p) s = inr (inr s)
 
-verdict_end : (status : ℕ) → IsVerdict status → IsEnd status
+pub verdict_end : (status : ℕ) → IsVerdict status → IsEnd status
 verdict_end status is = record { end = is }
 
 -- programs that one text spells have as many parameters
-same_params : (bytes : Bytes) (p q : Program) → source_kind.Means bytes p → source_kind.Means bytes q → p.names.params ≡ q.names.params
+pub same_params : (bytes : Bytes) (p q : Program) → source_kind.Means bytes p → source_kind.Means bytes q → p.names.params ≡ q.names.params
 same_params bytes p q left right = ap (λ (c : Content). c.names.params) (one_content bytes p q left right)
 
 -- one text is one script
 module _ (params : ℕ) (bytes : Bytes) (c d : Choosing) where
-  script_once : script_of params bytes ≡ Ok c → script_of params bytes ≡ Ok d → c ≡ d
+  pub script_once : script_of params bytes ≡ Ok c → script_of params bytes ≡ Ok d → c ≡ d
   script_once left right = cc
 
 -- ---- two runs of what the same files mean have one status

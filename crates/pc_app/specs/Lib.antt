@@ -13,6 +13,7 @@ pub mod Inferred
 pub mod Infer
 pub mod Replay
 pub mod Run
+pub mod Breach
 pub mod Facts
 pub mod Quick
 pub mod Show

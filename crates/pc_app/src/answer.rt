@@ -7,6 +7,7 @@ ghost use Rattle.pc_words.specs.Words.{Order, IsOrder, IsPlain, inputs_of, loops
 ghost use Rattle.pc_app.specs.Table.{task_of};
 ghost use Rattle.pc_app.specs.Reading.{TaskIs, WordsAre};
 
+use crate::breach::answer_to_breach;
 use crate::facts::FactsOf;
 use crate::infer::{CertificateOf, Condition};
 use crate::printing::answer_to_source;
@@ -114,6 +115,7 @@ fn answer_to_command<S: Store>(
             certificate,
         } => answer_to_replay(alloc, source, certificate, store),
         Command::Run { source, script } => answer_to_run(alloc, source, script, store),
+        Command::Breach { source, script } => answer_to_breach(alloc, source, script, store),
         Command::Facts { domain, source } => {
             answer_to_source(alloc, &FactsOf { domain }, source, store)
         }

@@ -2,6 +2,7 @@
 #![tactic(auto)]
 
 mod answer;
+mod breach;
 mod facts;
 mod files;
 mod infer;

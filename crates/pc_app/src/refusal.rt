@@ -51,7 +51,7 @@ fn push_fault(text: &mut Text, fault: SourceFault) -> Result<(), NoMemory>
 }
 
 /// Adds a code and a place.
-fn push_at(text: &mut Text, code: &[u8], place: Place) -> Result<(), NoMemory>
+pub(crate) fn push_at(text: &mut Text, code: &[u8], place: Place) -> Result<(), NoMemory>
     ensures { OnOk result (text.new ≡ text.old ++ (code.now ++ place_text place)) }
 {
     text.push_all(code)?;

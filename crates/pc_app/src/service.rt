@@ -3,13 +3,14 @@
 ghost use Rattle.std.specs.Prelude.{◌≡◌, ◌↔◌, ◌⊎◌, ℕ, List, map, string_bytes};
 ghost use Rattle.pc_ports.specs.Outside.{Rose};
 ghost use Rattle.pc_words.specs.Words.{Order};
-ghost use Rattle.pc_words.specs.Taken.{AreCommand, Orders, IsInfer, IsCertify, IsReplay, IsRun, IsFacts, IsQuick, IsShow, IsTrial};
+ghost use Rattle.pc_words.specs.Taken.{AreCommand, Orders, IsInfer, IsCertify, IsReplay, IsRun, IsBreach, IsFacts, IsQuick, IsShow, IsTrial};
 ghost use Rattle.pc_words.specs.declared.domains.FactsDomain.{FactsDomain};
 ghost use Rattle.pc_words.specs.declared.domains.QuickDomain.{QuickDomain};
 ghost use Rattle.pc_app.specs.Tasks.{Keeps};
 ghost use Rattle.pc_app.specs.Infer.{infer, certify};
 ghost use Rattle.pc_app.specs.Replay.{IsRuling, replay};
 ghost use Rattle.pc_app.specs.Run.{IsVerdict, run};
+ghost use Rattle.pc_app.specs.Breach.{breach};
 ghost use Rattle.pc_app.specs.Facts.{facts};
 ghost use Rattle.pc_app.specs.Quick.{quick};
 ghost use Rattle.pc_app.specs.Show.{show};
@@ -35,6 +36,7 @@ use std::alloc::Global;
 /// - `replay F C`: the ruling on the certificate `C` for the source `F`, and where it is accepted
 ///   its condition;
 /// - `run F S`: the verdict on the run of the source `F` over the script `S`;
+/// - `breach F S`: choices that break an assertion of the source `F` from the entry of the script `S`;
 /// - `facts F --domain=boxes` or `polyhedra`: for each point of the source `F` what the domain
 ///   knows there;
 /// - `quick F --domain=rows` or `boxes`: the condition on the entry states of the source `F` that
@@ -45,8 +47,8 @@ use std::alloc::Global;
 /// Words in none of these forms are asked of `clap`, and those that it takes are answered as the
 /// form that its answer is written as.
 ///
-/// An answer ends with [`DONE`], but a refused certificate and a violated assertion with
-/// [`FAILED`], and a run whose values leave the range with [`PAST`].
+/// An answer ends with [`DONE`], but a refused certificate, a violated assertion and choices that
+/// break one with [`FAILED`], and a run or a search whose numbers leave the range with [`PAST`].
 /// What is written with each other status, and when it comes, stands with the statuses.
 pub fn serve<S: Store, K: Sink>(alloc: Global, words: &[String], store: &mut S, out: &mut K) -> u8
     // In all clauses words order something in its plain form, or, where they are in none, as `clap` takes them.
@@ -70,6 +72,12 @@ pub fn serve<S: Store, K: Sink>(alloc: Global, words: &[String], store: &mut S, 
     // Words `run F S`: the verdict on the machine's run of the program of F over the choices of S.
     ensures run { (source script : List ℕ) → IsRun (map string_bytes words.now) source script → IsVerdict result →
         Keeps (run source script) (S.holding store.old) result (K.written out.old) (K.written out.new) }
+
+    // Words `breach F S`, of a straight program without open ends. Done: the entry state of S is safe. Failed: a script
+    // with this entry was printed, and the machine's run over its choices, which are a function of the program and the
+    // entry, violates an assertion. Past only where the numbers are not tame.
+    ensures breach { (source script : List ℕ) → IsBreach (map string_bytes words.now) source script → IsVerdict result →
+        Keeps (breach source script) (S.holding store.old) result (K.written out.old) (K.written out.new) }
 
     // Words `facts F --domain=..`, done: a line for each point of the program's graph, with rows that each state meets
     // which some walk from an entry state brings there. With boxes, where the program has no loops, they are exactly
@@ -110,18 +118,20 @@ pub fn serve<S: Store, K: Sink>(alloc: Global, words: &[String], store: &mut S, 
         IsAnswered result → (result ≡ TOO_LONG) ↔ OrderIsTooLong (S.holding store.old) order }
 
     // Refused and malformed exactly where the bytes of a file have a fault, with the status of its kind: those of the
-    // source, which spell no program, and behind a source that is read those of the certificate or the script.
+    // source, which spell no program (or for `breach` one that is not straight or has an open end), and behind a source
+    // that is read those of the certificate or the script.
     ensures refused { (order : Order) → Orders (map string_bytes words.now) order → AreTold (S.holding store.old) (files_of order) →
         IsAnswered result → (result ≡ REFUSED) ↔ OrderIsFaulty REFUSED (S.holding store.old) order }
     ensures malformed { (order : Order) → Orders (map string_bytes words.now) order → AreTold (S.holding store.old) (files_of order) →
         IsAnswered result → (result ≡ MALFORMED) ↔ OrderIsFaulty MALFORMED (S.holding store.old) order }
 
     // Failed exactly where a source is read, and the certificate behind it is not right for the program's graph, or
-    // the run over the script behind it violates an assertion.
+    // the run over the script behind it violates an assertion, or the entry of the script breaks one.
     ensures failed { (order : Order) → Orders (map string_bytes words.now) order → AreTold (S.holding store.old) (files_of order) →
         IsAnswered result → (result ≡ FAILED) ↔ OrderHasFailed (S.holding store.old) order }
 
-    // Past exactly where a source is read, and the run over the script behind it needs a value that is not in range.
+    // Past exactly where a source is read, and the run over the script behind it needs a value that is not in range, or
+    // what is needed at the entry or its values at the entry of the script are not in range.
     ensures past { (order : Order) → Orders (map string_bytes words.now) order → AreTold (S.holding store.old) (files_of order) →
         IsAnswered result → (result ≡ PAST) ↔ OrderIsPast (S.holding store.old) order }
 

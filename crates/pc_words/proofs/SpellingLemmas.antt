@@ -8,7 +8,7 @@ use Rattle.pc_words.specs.declared.domains.FactsDomain.{FactsDomain}
 use Rattle.pc_words.specs.declared.domains.FactsDomain.TheVariants as facts
 use Rattle.pc_words.specs.declared.domains.QuickDomain.{QuickDomain}
 use Rattle.pc_words.specs.declared.domains.QuickDomain.TheVariants as quick
-use Rattle.pc_words.specs.Words.{Order, Infer, Certify, Replay, Run, Facts, Quick, Show, Trial, words_of, IsOrder}
+use Rattle.pc_words.specs.Words.{Order, Infer, Certify, Replay, Run, Breach, Facts, Quick, Show, Trial, words_of, IsOrder}
 use Rattle.pc_words.specs.Taken.{WordsOrderOneThing}
 
 -- what words order that are those of some order
@@ -29,6 +29,7 @@ of_three verb source third =
     if bytes_eq verb (codes "infer") then Certify source
     else if bytes_eq verb (codes "replay") then Replay source third
     else if bytes_eq verb (codes "run") then Run source third
+    else if bytes_eq verb (codes "breach") then Breach source third
     else if bytes_eq verb (codes "facts") then Facts (facts_domain third) source
     else Quick (quick_domain third) source
 
@@ -45,6 +46,7 @@ reads_back (Infer source) = refl
 reads_back (Certify source) = refl
 reads_back (Replay source certificate) = refl
 reads_back (Run source script) = refl
+reads_back (Breach source script) = refl
 reads_back (Facts facts.Boxes source) = refl
 reads_back (Facts facts.Polyhedra source) = refl
 reads_back (Quick quick.Rows source) = refl

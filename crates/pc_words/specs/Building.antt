@@ -24,14 +24,17 @@ with_subcommands subs = record {
   subs = subs;
 }
 
--- the subcommands that prove, replay and run
+-- the subcommands that prove and replay
 abbrev pub proving : List Shape
-proving = subcommand (codes "infer") (first ∷ certificate ∷ []) ∷ subcommand (codes "replay") (first ∷ second ∷ [])
-    ∷ subcommand (codes "run") (first ∷ second ∷ []) ∷ []
+proving = subcommand (codes "infer") (first ∷ certificate ∷ []) ∷ subcommand (codes "replay") (first ∷ second ∷ []) ∷ []
+
+-- these, and those that take a script
+abbrev pub with_script : List Shape
+with_script = proving ++ subcommand (codes "run") (first ∷ second ∷ []) ∷ subcommand (codes "breach") (first ∷ second ∷ []) ∷ []
 
 -- these, and those with a domain
 abbrev pub with_domain : List Shape
-with_domain = proving ++ subcommand (codes "facts") (first ∷ domain ∷ []) ∷ subcommand (codes "quick") (first ∷ domain ∷ []) ∷ []
+with_domain = with_script ++ subcommand (codes "facts") (first ∷ domain ∷ []) ∷ subcommand (codes "quick") (first ∷ domain ∷ []) ∷ []
 
 -- the text behind a reference
 abbrev pub text_in : Option (Bor Text) → Option Text

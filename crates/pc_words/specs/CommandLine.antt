@@ -42,6 +42,7 @@ precond = record {
   subs = subcommand (codes "infer") (first ∷ certificate ∷ [])
       ∷ subcommand (codes "replay") (first ∷ second ∷ [])
       ∷ subcommand (codes "run") (first ∷ second ∷ [])
+      ∷ subcommand (codes "breach") (first ∷ second ∷ [])
       ∷ subcommand (codes "facts") (first ∷ domain ∷ [])
       ∷ subcommand (codes "quick") (first ∷ domain ∷ [])
       ∷ subcommand (codes "show") (first ∷ [])

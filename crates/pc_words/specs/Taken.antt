@@ -3,7 +3,7 @@ use Rattle.std.specs.Prelude.{◌≡◌, ◌⊎◌, ℕ, List}
 use Rattle.pc_text.specs.Bytes.{Bytes}
 use Rattle.pc_words.specs.declared.domains.FactsDomain.{FactsDomain}
 use Rattle.pc_words.specs.declared.domains.QuickDomain.{QuickDomain}
-use Rattle.pc_words.specs.Words.{Order, Infer, Certify, Replay, Run, Facts, Quick, Show, Trial, IsOrder, IsPlain}
+use Rattle.pc_words.specs.Words.{Order, Infer, Certify, Replay, Run, Breach, Facts, Quick, Show, Trial, IsOrder, IsPlain}
 use Rattle.pc_words.specs.CommandLine.{Accepts, written}
 
 -- `clap` takes the words as this order: it accepts them, and its answer is written as the plain form of the order
@@ -44,6 +44,10 @@ IsReplay words source certificate = Orders words (Replay source certificate)
 -- what `run F S` does
 abbrev pub IsRun : List Bytes → Bytes → Bytes → Type 0
 IsRun words source script = Orders words (Run source script)
+
+-- what `breach F S` does
+abbrev pub IsBreach : List Bytes → Bytes → Bytes → Type 0
+IsBreach words source script = Orders words (Breach source script)
 
 -- what `facts F --domain=D` does
 abbrev pub IsFacts : List Bytes → FactsDomain → Bytes → Type 0

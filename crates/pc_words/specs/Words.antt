@@ -17,13 +17,14 @@ IsFile [] = ⊥
 IsFile (first ∷ rest) = first ≢ 45
 
 -- what is ordered: the condition of a source; its certificate; the ruling on a certificate for a source; the run of a source on a
--- script; what a domain knows at the points of a source; the condition that a domain finds going backwards; the canonical text of a
--- source; the condition of the made source with so many loops
+-- script; the choices that break an assertion of a source from the entry of a script; what a domain knows at the points of a source; the
+-- condition that a domain finds going backwards; the canonical text of a source; the condition of the made source with so many loops
 pub data Order : Type 0 where
   Infer : Bytes → Order
   Certify : Bytes → Order
   Replay : Bytes → Bytes → Order
   Run : Bytes → Bytes → Order
+  Breach : Bytes → Bytes → Order
   Facts : FactsDomain → Bytes → Order
   Quick : QuickDomain → Bytes → Order
   Show : Bytes → Order
@@ -45,6 +46,7 @@ words_of (Infer source) = codes "infer" ∷ source ∷ []
 words_of (Certify source) = codes "infer" ∷ source ∷ codes "--certificate" ∷ []
 words_of (Replay source certificate) = codes "replay" ∷ source ∷ certificate ∷ []
 words_of (Run source script) = codes "run" ∷ source ∷ script ∷ []
+words_of (Breach source script) = codes "breach" ∷ source ∷ script ∷ []
 words_of (Facts domain source) = codes "facts" ∷ source ∷ facts_word domain ∷ []
 words_of (Quick domain source) = codes "quick" ∷ source ∷ quick_word domain ∷ []
 words_of (Show source) = codes "show" ∷ source ∷ []
@@ -62,6 +64,7 @@ inputs_of (Infer source) = Source source
 inputs_of (Certify source) = Source source
 inputs_of (Replay source certificate) = WithCertificate source certificate
 inputs_of (Run source script) = WithScript source script
+inputs_of (Breach source script) = WithScript source script
 inputs_of (Facts domain source) = Source source
 inputs_of (Quick domain source) = Source source
 inputs_of (Show source) = Source source
@@ -101,6 +104,7 @@ ordered (command.Infer source) = Infer source.now
 ordered (command.Certify source) = Certify source.now
 ordered (command.Replay source certificate) = Replay source.now certificate.now
 ordered (command.Run source script) = Run source.now script.now
+ordered (command.Breach source script) = Breach source.now script.now
 ordered (command.Facts domain source) = Facts domain source.now
 ordered (command.Quick domain source) = Quick domain source.now
 ordered (command.Show source) = Show source.now

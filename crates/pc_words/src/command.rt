@@ -2,12 +2,12 @@
 
 ghost use Rattle.std.specs.Prelude.{◌≡◌, [], IfOk, false};
 ghost use Rattle.pc_words.specs.CommandLine.{precond};
-ghost use Rattle.pc_words.specs.Building.{with_subcommands, proving, with_domain};
+ghost use Rattle.pc_words.specs.Building.{with_subcommands, proving, with_script, with_domain};
 ghost use Rattle.clap.specs.Words.{app_of, with_subcommand};
 ghost use Rattle.clap.specs.declared.builder.Command.TheViews.{out-Command as fields_of};
 
 use crate::help;
-use crate::subcommands::{facts, infer, quick, replay, run, show, trial};
+use crate::subcommands::{breach, facts, infer, quick, replay, run, show, trial};
 use clap::Command;
 use std::alloc::{AllocError, Global};
 
@@ -16,6 +16,7 @@ pub(crate) fn precond_command<'a>(alloc: Global) -> Result<Command<'a>, AllocErr
     ensures { IfOk result (λ c. app_of c ≡ precond) }
 {
     let command = add_proving(alloc, empty_command(alloc)?)?;
+    let command = add_scripts(alloc, command)?;
     let command = add_domains(alloc, command)?;
     add_others(alloc, command)
 }
@@ -32,19 +33,27 @@ fn empty_command<'a>(alloc: Global) -> Result<Command<'a>, AllocError>
         .bin_name("precond")
 }
 
-/// With the subcommands that prove, replay and run.
+/// With the subcommands that prove and replay.
 fn add_proving<'a>(alloc: Global, command: Command<'a>) -> Result<Command<'a>, AllocError>
     requires { app_of command ≡ with_subcommands [] }
     ensures { IfOk result (λ c. app_of c ≡ with_subcommands proving) }
 {
     let command = add(command, infer(alloc)?)?;
-    let command = add(command, replay(alloc)?)?;
-    add(command, run(alloc)?)
+    add(command, replay(alloc)?)
+}
+
+/// With the subcommands that take a script.
+fn add_scripts<'a>(alloc: Global, command: Command<'a>) -> Result<Command<'a>, AllocError>
+    requires { app_of command ≡ with_subcommands proving }
+    ensures { IfOk result (λ c. app_of c ≡ with_subcommands with_script) }
+{
+    let command = add(command, run(alloc)?)?;
+    add(command, breach(alloc)?)
 }
 
 /// With the subcommands that take a domain.
 fn add_domains<'a>(alloc: Global, command: Command<'a>) -> Result<Command<'a>, AllocError>
-    requires { app_of command ≡ with_subcommands proving }
+    requires { app_of command ≡ with_subcommands with_script }
     ensures { IfOk result (λ c. app_of c ≡ with_subcommands with_domain) }
 {
     let command = add(command, facts(alloc)?)?;

@@ -27,6 +27,7 @@ Examples:
   precond infer copy --certificate > copy.certificate
   precond replay copy copy.certificate
   precond run copy copy.script
+  precond breach price price.script
   precond facts copy --domain=boxes
   precond quick copy --domain=rows
   precond show copy
@@ -34,15 +35,15 @@ Examples:
 
 Status:
    0  the answer was printed
-   1  a run violates an assertion, or a certificate is refused: printed
+   1  a run or some choices violate an assertion, or a certificate is refused: printed
    2  the words are none of these commands: this help was printed
-   3  the source spells no program: its first fault was printed, with line and column
+   3  the source spells no program, or none for this command: its first fault was printed
    4  the script or the certificate is not in its format: the first line at fault was printed
    5  a file could not be read
    6  the output could not be written
    7  there was no memory
    8  a file is longer than it may be: which one was printed
-   9  a value of the run is past the range of numbers: the step was printed
+   9  a value of the run, or a number of breach, is past the range of numbers: printed
   10  the system did not give the words";
 
 /// Of `infer`.
@@ -77,6 +78,17 @@ choose 1 500.
 
 Example:
   precond run copy copy.script";
+
+/// Of `breach`.
+pub(crate) const BREACH: &str = "Prints choices that violate an assertion";
+
+pub(crate) const BREACH_BELOW: &str = "\
+Takes the entry of the script, whose choices are not used. Prints safe, or a script with choices
+whose run violates an assertion, with status 1, or unsettled where a number leaves the range, with
+status 9. It takes programs without loops, assume, tests but * and open ends.
+
+Example:
+  precond breach price price.script";
 
 /// Of `facts`.
 pub(crate) const FACTS: &str = "Prints what a domain knows at each point of a program";

@@ -37,6 +37,14 @@ pub(crate) fn run<'a>(alloc: Global) -> Result<Command<'a>, AllocError>
     Ok(told(command, help::RUN, help::RUN_BELOW))
 }
 
+/// `breach FILE SCRIPT`.
+pub(crate) fn breach<'a>(alloc: Global) -> Result<Command<'a>, AllocError>
+    ensures { IfOk result (λ c. IsSubcommand c (subcommand (codes "breach") (first ∷ second ∷ []))) }
+{
+    let command = of_one(alloc, "breach", source_arg(alloc))?.arg(script_arg(alloc))?;
+    Ok(told(command, help::BREACH, help::BREACH_BELOW))
+}
+
 /// `facts FILE --domain DOMAIN`.
 pub(crate) fn facts<'a>(alloc: Global) -> Result<Command<'a>, AllocError>
     ensures { IfOk result (λ c. IsSubcommand c (subcommand (codes "facts") (first ∷ domain ∷ []))) }

@@ -28,6 +28,11 @@ pub enum Command<'a> {
         source: &'a str,
         script: &'a str,
     },
+    /// `breach F S`: the choices that break an assertion of a source from the entry of a script.
+    Breach {
+        source: &'a str,
+        script: &'a str,
+    },
     /// `facts F --domain=D`: what a domain knows at the points of a source.
     Facts {
         domain: FactsDomain,
@@ -123,6 +128,11 @@ fn of_two_files<'a>(verb: &str, source: &'a str, other: &'a str) -> Option<Comma
         })
     } else if verb == "run" {
         Some(Command::Run {
+            source,
+            script: other,
+        })
+    } else if verb == "breach" {
+        Some(Command::Breach {
             source,
             script: other,
         })

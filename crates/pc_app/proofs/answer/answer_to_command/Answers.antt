@@ -12,6 +12,9 @@ returns-in-Replay-clause-answered g c = rw c.in-Replay.is c.answer_to_replay.ens
 pub returns-in-Run-clause-answered : goal.returns-in-Run-clause-answered
 returns-in-Run-clause-answered g c = rw c.in-Run.is c.answer_to_run.ensures.answered
 
+pub returns-in-Breach-clause-answered : goal.returns-in-Breach-clause-answered
+returns-in-Breach-clause-answered g c = rw c.in-Breach.is c.answer_to_breach.ensures.answered
+
 pub returns-in-Facts-clause-answered : goal.returns-in-Facts-clause-answered
 returns-in-Facts-clause-answered g c = rw c.in-Facts.is c.answer_to_source-in-Facts.ensures.answered
 

@@ -1,4 +1,4 @@
-use Rattle.pc_words.specs.Words.{Infer, Certify, Replay, Run, Facts, Quick, Show, Trial}
+use Rattle.pc_words.specs.Words.{Infer, Certify, Replay, Run, Breach, Facts, Quick, Show, Trial}
 use Rattle.pc_app.proofs.EndLemmas as ends
 use Rattle.pc_app.proofs.service.serve.Goals as goal
 
@@ -15,6 +15,9 @@ returns-clause-replay g c source certificate is ended = ends.keeps _ _ _ _ _ _ _
 
 pub returns-clause-run : goal.returns-clause-run
 returns-clause-run g c source script is ended = ends.keeps _ _ _ _ _ _ _ _ _ c.respond.ensures.ends (Run source script) is ended
+
+pub returns-clause-breach : goal.returns-clause-breach
+returns-clause-breach g c source script is ended = ends.keeps _ _ _ _ _ _ _ _ _ c.respond.ensures.ends (Breach source script) is ended
 
 pub returns-clause-facts : goal.returns-clause-facts
 returns-clause-facts g c domain source is ended = ends.keeps _ _ _ _ _ _ _ _ _ c.respond.ensures.ends (Facts domain source) is ended
