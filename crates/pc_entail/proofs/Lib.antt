@@ -1,5 +1,8 @@
 pub mod Finding
 pub mod Copying
+pub mod Composing
+pub mod Settling
+pub mod Leaving
 pub mod Removing
 pub mod Renewing
 pub mod Reducing

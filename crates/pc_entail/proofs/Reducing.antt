@@ -15,8 +15,9 @@ pub record Going (rows : List Linear) (i : ℕ) (kept : List Linear) (removed : 
   pub count : length kept ≤ i
   pub goes_on : (answer : List Linear) → Thins kept (rows_of removed) (drop i rows) answer → Thinned rows answer
 
-pub going_first : (rows : List Linear) → Going rows 0 [] []
-going_first rows = record { count = omega arith; goes_on = λ answer h. h }
+pub going_first : (rows kept : List Linear) (removed : List Removed) → kept ≡ [] → removed ≡ [] → Going rows 0 kept removed
+going_first rows kept removed a b =
+    subst (λ (z : List Linear). Going rows 0 z removed) (sym a) (subst (Going rows 0 []) (sym b) (record { count = omega arith; goes_on = λ answer h. h }))
 
 pub going_next : (rows : List Linear) (i : ℕ) (kept : List Linear) (removed : List Removed) (r : Linear) (later new_kept : List Linear) (new_removed : List Removed) → Going rows i kept removed →
     slice_get rows i ≡ Some r → later ≡ drop (i + 1) rows → StepIs kept removed r later (Ok tt) new_kept new_removed → Going rows (i + 1) new_kept new_removed

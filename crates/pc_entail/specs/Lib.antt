@@ -1,5 +1,9 @@
 pub mod Showing
 pub mod Settled
+pub mod Found
+pub mod Composition
+pub mod Composing
 pub mod Reduction
 pub mod Steps
+pub mod Removal
 pub mod Laws

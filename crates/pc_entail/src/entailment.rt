@@ -3,8 +3,10 @@
 ghost use Rattle.std.specs.Prelude.{◌≡◌, ◌≤◌, ◌+◌, ◌++◌, length, IfOk, Ok, true};
 ghost use Rattle.pc_rows.specs.Linear.{State, MeetsAll};
 ghost use Rattle.pc_elim.specs.Deciding.{DecideIs};
+ghost use Rattle.pc_rows.specs.Substitution.{never_row};
 ghost use Rattle.pc_entail.specs.Showing.{question, ShowIs, ShowsAllIs, ContradictoryIs};
 ghost use Rattle.pc_entail.specs.Settled.{SettledIs};
+ghost use Rattle.pc_entail.specs.Found.{IsProofFound, IsFound, AllFound, Tells, Gives};
 ghost use Rattle.pc_entail.specs.Steps.{FoundIs};
 
 use pc_elim::{Answer, decide};
@@ -26,10 +28,11 @@ pub fn entails(alloc: Global, a: &Rows, b: &Rows, r: &Row) -> Result<Answer, NoM
     settled(alloc, &system)
 }
 
-/// Whether the rows of `a` are found to show every row of `b`. Where they are not, a point refutes
-/// some row of `b`, or its question is not modest.
+/// Whether the rows of `a` are found to show every row of `b`: whether each question is settled by a
+/// proof. Where they are not, a point refutes some row of `b`, or its question is not modest.
 pub fn shows_all(alloc: Global, a: &Rows, b: &Rows) -> Result<bool, NoMemory>
-    ensures { ShowsAllIs a.now b.now result }
+    ensures exact { Tells (AllFound a.now b.now) result }
+    ensures evidence { ShowsAllIs a.now b.now result }
 {
     let _most = a.len();
     show_all(alloc, a, &Rows::new(alloc), b)
@@ -38,6 +41,7 @@ pub fn shows_all(alloc: Global, a: &Rows, b: &Rows) -> Result<bool, NoMemory>
 /// Whether the rows are found to contradict each other: they show the row -1, so that no state
 /// meets them. Where they are not, a rational point meets them, or the question is not modest.
 pub fn contradictory(alloc: Global, a: &Rows) -> Result<bool, NoMemory>
+    ensures exact { Tells (IsFound a.now never_row) result }
     ensures evidence { ContradictoryIs a.now result }
     ensures states { result ≡ Ok true → (s : State) → MeetsAll s a.now → ⊥ }
 {
@@ -48,7 +52,8 @@ pub fn contradictory(alloc: Global, a: &Rows) -> Result<bool, NoMemory>
 /// Whether the rows of `a` and then of `b` are found to show each of the goals.
 fn show_all(alloc: Global, a: &Rows, b: &Rows, goals: &Rows) -> Result<bool, NoMemory>
     requires { length a.now + length b.now ≤ PREMISES }
-    ensures { ShowsAllIs (a.now ++ b.now) goals.now result }
+    ensures exact { Tells (AllFound (a.now ++ b.now) goals.now) result }
+    ensures evidence { ShowsAllIs (a.now ++ b.now) goals.now result }
 {
     for i in 0..goals.len() {
         if !show(alloc, a, b, goals.at(i))? {
@@ -59,9 +64,11 @@ fn show_all(alloc: Global, a: &Rows, b: &Rows, goals: &Rows) -> Result<bool, NoM
 }
 
 /// Whether the rows of `a` and then of `b` are found to show the goal.
+#[tactic(auto, using(crate::proofs::Settling::row_found, crate::proofs::Settling::row_point, crate::proofs::Settling::row_unsettled))]
 fn show(alloc: Global, a: &Rows, b: &Rows, goal: &Row) -> Result<bool, NoMemory>
     requires { length a.now + length b.now ≤ PREMISES }
-    ensures { ShowIs (a.now ++ b.now) goal.now result }
+    ensures exact { Tells (IsFound (a.now ++ b.now) goal.now) result }
+    ensures evidence { ShowIs (a.now ++ b.now) goal.now result }
 {
     match entails(alloc, a, b, goal)? {
         Answer::Shown(_) => Ok(true),
@@ -94,8 +101,10 @@ fn add(system: &mut System, rows: &Rows) -> Result<(), NoMemory>
 
 /// A proof that the premises show the goal. None where a point refutes it, or the question is not
 /// settled.
+#[tactic(auto, using(crate::proofs::Settling::found_shown, crate::proofs::Settling::point_found, crate::proofs::Settling::unsettled_found))]
 pub(crate) fn found(alloc: Global, system: &System) -> Result<Option<Proof>, NoMemory>
-    ensures { FoundIs system.now.premises system.now.goal result }
+    ensures exact { Gives (IsProofFound system.now) result }
+    ensures evidence { FoundIs system.now.premises system.now.goal result }
 {
     match settled(alloc, system)? {
         Answer::Shown(proof) => Ok(Some(proof)),

@@ -8,6 +8,6 @@ mod reduction;
 mod renewal;
 
 pub use entailment::{contradictory, entails, shows_all};
-pub use laws::{reductions_are_equal, shown_rows_are_met, tests_are_kept};
+pub use laws::{answers_are_functions, reductions_are_equal, shown_rows_are_met, tests_are_kept};
 pub use pc_elim::Answer;
 pub use reduction::reduce;

@@ -3,6 +3,8 @@
 ghost use Rattle.std.specs.Prelude.{◌≡◌, ◌<◌, ◌+◌, ◌++◌, ◌↔◌, [], ◌∷◌, length, drop, IfOk};
 ghost use Rattle.pc_rows.specs.Linear.{State, MeetsAll};
 ghost use Rattle.pc_entail.specs.Reduction.{Reduced, Thinned, RemovesShown, AreModest};
+ghost use Rattle.pc_entail.specs.Found.{Gives};
+ghost use Rattle.pc_entail.specs.Removal.{Goes, AreLeft, TakesStep};
 ghost use Rattle.pc_entail.specs.Steps.{rows_of, GoesIs, WithIs, StepIs};
 
 use crate::entailment::{asked, found};
@@ -17,6 +19,7 @@ use std::alloc::Global;
 /// another row goes. Where a question is not settled the row stays, which comes only where that
 /// question is not modest.
 pub fn reduce(alloc: Global, a: &Rows) -> Result<Rows, NoMemory>
+    ensures left { IfOk result (AreLeft a.now) }
     ensures states { IfOk result (λ rows. (s : State) → MeetsAll s a.now ↔ MeetsAll s rows) }
     ensures removed { IfOk result (λ rows. RemovesShown a.now rows) }
     ensures kept { IfOk result (λ rows. Thinned a.now rows) }
@@ -51,7 +54,8 @@ fn step(
     later: &Rows,
 ) -> Result<(), NoMemory>
     requires { length kept.old + length later.now < ROWS }
-    ensures { StepIs kept.old removed.old r.now later.now result kept.new removed.new }
+    ensures exact { TakesStep kept.old removed.old r.now later.now result kept.new removed.new }
+    ensures evidence { StepIs kept.old removed.old r.now later.now result kept.new removed.new }
 {
     match without(alloc, kept, removed.as_slice(), r, later)? {
         Some(all) => {
@@ -72,7 +76,8 @@ fn without(
     later: &Rows,
 ) -> Result<Option<Items<Removed>>, NoMemory>
     requires { length kept.now + length later.now < ROWS }
-    ensures { GoesIs (kept.now ++ later.now) (rows_of removed.now ++ r.now ∷ []) result }
+    ensures exact { Gives (Goes kept.now removed.now r.now later.now) result }
+    ensures evidence { GoesIs (kept.now ++ later.now) (rows_of removed.now ++ r.now ∷ []) result }
 {
     let mut system = asked(alloc, kept, later, r)?;
     match found(alloc, &system)? {

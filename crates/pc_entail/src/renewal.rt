@@ -1,6 +1,8 @@
 //! Rows that are removed, and the proofs by which the rows that stand show them.
 
 ghost use Rattle.std.specs.Prelude.{◌≡◌, ◌++◌, [], ◌∷◌, IfOk};
+ghost use Rattle.pc_entail.specs.Found.{Gives};
+ghost use Rattle.pc_entail.specs.Removal.{IsRenewed, AreRenewed, CheckedIs};
 ghost use Rattle.pc_entail.specs.Steps.{FoundIs, RenewedIs};
 
 use crate::composition::composed;
@@ -25,7 +27,8 @@ pub fn renewed(
     removed: &[Removed],
     gone: &Proof,
 ) -> Result<Option<Items<Removed>>, NoMemory>
-    ensures { RenewedIs system.old.premises removed.now result }
+    ensures exact { Gives (AreRenewed system.old.premises place gone.now removed.now) result }
+    ensures evidence { RenewedIs system.old.premises removed.now result }
 {
     let mut all = Items::new(alloc);
     for old in removed {
@@ -61,7 +64,8 @@ fn renew(
     gone: &Proof,
 ) -> Result<Option<Proof>, NoMemory>
     requires { old.now.row ≡ system.now.goal }
-    ensures { FoundIs system.now.premises old.now.row result }
+    ensures exact { Gives (IsRenewed system.now.premises place gone.now old.now) result }
+    ensures evidence { FoundIs system.now.premises old.now.row result }
 {
     match composed(alloc, &old.proof, gone, place)? {
         Some(guess) => checked(alloc, system, guess),
@@ -71,7 +75,8 @@ fn renew(
 
 /// The guess where it shows the goal, and else what is found.
 fn checked(alloc: Global, system: &System, guess: Proof) -> Result<Option<Proof>, NoMemory>
-    ensures { FoundIs system.now.premises system.now.goal result }
+    ensures exact { CheckedIs system.now guess result }
+    ensures evidence { FoundIs system.now.premises system.now.goal result }
 {
     if shows(system, &guess) {
         return Ok(Some(guess));
