@@ -1,12 +1,14 @@
 -- The choice of an alternative for a candidate.
-use Rattle.std.proofs.Common.{◌≡◌, ◌<◌, List, length, arith, refl, sym, ap, subst, ◌∙◌, inl, inr, true, Option, Some, None, Result, Ok, Err}
+use Rattle.std.proofs.Common.{◌≡◌, ◌<◌, ◌≤◌, List, length, arith, refl, sym, ap, subst, ◌∙◌, inl, inr, Bool, true, false, Option, Some, None, Result, Ok, Err}
 use Rattle.std.specs.Prelude.{IfOk, IfSome}
 use Rattle.pc_rows.specs.declared.rows.NoMemory.{NoMemory}
-use Rattle.pc_rows.specs.Linear.{State, MeetsAll}
+use Rattle.pc_rows.specs.declared.rows.TheConstants.{ROWS}
+use Rattle.pc_rows.specs.Linear.{Linear, State, MeetsAll}
 use Rattle.pc_flow.specs.Annotation.{Annotation, rows_at}
 use Rattle.pc_flow.specs.Flow.{Flow}
 use Rattle.pc_lower.specs.Laws.{IsComplete}
 use Rattle.pc_certificate.specs.declared.certificate.Annotated.{Annotated}
+use Rattle.pc_entail.specs.Showing.{ContradictoryIs}
 use Rattle.pc_entail.proofs.Finding.{contradictory_states}
 use Rattle.pc_certify.specs.Candidates.{Candidate}
 use Rattle.pc_certify.specs.Causes.{Fails}
@@ -16,6 +18,13 @@ use Rattle.pc_certify.specs.Inferring.{IsChosen, ChosenIs, FoundIs, ChosenOf, Ch
 use Rattle.pc_certify.specs.Proving.{AnnotatedIs}
 use Rattle.pc_certify.specs.Selecting.{HasEntry}
 use Rattle.pc_certify.proofs.Claimed.{annotation_proved}
+
+-- an alternative whose rows are not found to contradict each other
+pub possible_stays : (a : Annotated) (rows : List Linear) (found : Bool) → rows ≡ rows_at a.rows 0 → length rows ≤ ROWS → ContradictoryIs rows (Ok found) → found ≡ false →
+    PossibleIs a (Ok (Some a))
+possible_stays a rows found is most h e =
+    let told = subst (λ (b : Bool). ContradictoryIs rows (Ok b)) e h in
+    (refl, subst (λ (z : List Linear). length z ≤ ROWS) is most, subst (λ (z : List Linear). ContradictoryIs z (Ok false)) is told)
 
 -- an annotation with proofs
 

@@ -1,5 +1,4 @@
-use Rattle.std.proofs.Common.{◌≡◌, List, sym, subst, Option, Ok}
-use Rattle.pc_rows.specs.Linear.{Linear}
+use Rattle.std.proofs.Common.{sym, subst, Ok}
 use Rattle.pc_flow.specs.Annotation.{Annotation}
 use Rattle.pc_flow.specs.Shape.{NoHeads}
 use Rattle.pc_lower.specs.Tame.{IsTame}
